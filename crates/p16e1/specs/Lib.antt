@@ -1,0 +1,3 @@
+pub mod Floor
+pub mod Rows
+pub mod Exp2

@@ -1,0 +1,70 @@
+// A pattern's number, taken apart: the power of two and the fraction, or the whole of it in units of 2^-28.
+//
+// The sign bit is not looked at. Callers decode the magnitude of a number; zero and NaR, which have none, decode as the
+// smallest posit does.
+ghost use mathlib.Core.Path.{_≡_};
+ghost use Prim.Native.Nat.{_+_, _-_, _*_, _≤_};
+ghost use Rattle.posit.specs.Number.{bit, run, regime, magnitude};
+ghost use Rattle.posit.specs.Decoding.{Decodes};
+
+// (1 + fraction / 4096) * 2^power, in units of 2^-28.
+pub struct Decoded {
+    pub power: u32,
+    pub fraction: u32,
+}
+
+// How many bits of p after the sign, from the first of them on, equal that first one, b.
+fn run_length(p: u16, b: u16) -> u32
+    requires { ⌜ b ≡ bit 14 p ⌝ }
+    ensures { λ m. ⌜ m ≡ run b 15 p ⌝ }
+    ensures { λ m. ⌜ (1 ≤ m) × (m ≤ 15) ⌝ }
+{
+    let mut m: u32 = 1;
+    while m < 15 {
+        if (p >> (14 - m)) % 2 != b {
+            return m;
+        }
+        m += 1;
+    }
+    15
+}
+
+// The power of two that a run of m bits b says, counted from the smallest.
+fn regime_power(b: u16, m: u32) -> u32
+    requires { ⌜ (1 ≤ m) × (m ≤ 15) ⌝ }
+    ensures { λ w. ⌜ w ≡ regime 1 16 b m ⌝ }
+{
+    if b == 0 {
+        if m < 14 { 28 - 2 * m } else { 0 }
+    } else {
+        26 + 2 * m
+    }
+}
+
+// The run is shifted out, so that its end stands at bit 13, the exponent at bit 12 and the fraction below.
+pub fn decode(p: u16) -> Decoded
+    ensures { λ d. ⌜ Decodes p (d .power) (d .fraction) ⌝ }
+{
+    let b = (p >> 14) % 2;
+    let m = run_length(p, b);
+    let bits = (p as u32) << (m - 1);
+    let power = regime_power(b, m) + bits / 4096 % 2;
+    Decoded {
+        power,
+        fraction: bits % 4096,
+    }
+}
+
+// The magnitude of p's number, in units of 2^-28.
+pub fn units(p: u16) -> u64
+    ensures { λ r. ⌜ r ≡ magnitude 1 16 p ⌝ }
+{
+    let d = decode(p);
+    let lead = (4096 + d.fraction) as u64;
+    let power = d.power;
+    if power < 12 {
+        lead >> (12 - power)
+    } else {
+        lead << (power - 12)
+    }
+}
