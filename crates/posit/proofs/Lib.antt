@@ -1,3 +1,14 @@
+pub mod Compare
 pub mod Run
 pub mod Value
 pub mod Shapes
+pub mod Growth
+pub mod Unique
+pub mod Complement
+pub mod Exists
+pub mod Widths
+pub mod Patterns
+pub mod Laws
+pub mod Own
+pub mod Dyadic
+pub mod Fields

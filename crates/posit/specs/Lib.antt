@@ -1,3 +1,4 @@
 pub mod Number
 pub mod Rounding
+pub mod Answer
 pub mod Decoding

@@ -3,9 +3,9 @@ mod decoding;
 mod rounding;
 mod sign;
 
+pub use decoding::Decoded;
 pub use decoding::decode;
 pub use decoding::units;
-pub use decoding::Decoded;
 pub use rounding::round;
 pub use sign::opposite;
 pub use sign::signed;
