@@ -12,3 +12,8 @@ pub mod Laws
 pub mod Own
 pub mod Dyadic
 pub mod Fields
+pub mod Nearest
+pub mod Regimes
+pub mod Between
+pub mod Words
+pub mod Far

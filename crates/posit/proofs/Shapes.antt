@@ -56,7 +56,7 @@ module _ (es L N : ℕ) (fits : N ≤ L) where
     pub far : index r' t' q' ≡ index r t q + step t
 
   -- one more at the same regime, and the first of the next regime
-  same-far : (r t q : ℕ) → index r t (suc q) ≡ index r t q + step t
+  pub same-far : (r t q : ℕ) → index r t (suc q) ≡ index r t q + step t
   same-far r t q =
       let a : suc q * 2 ^ es * 2 ^ (L - t) ≡ suc q * (2 ^ es * 2 ^ (L - t)) = mul-assoc (suc q) (2 ^ es) (2 ^ (L - t)) in
       let b : q * 2 ^ es * 2 ^ (L - t) ≡ q * (2 ^ es * 2 ^ (L - t)) = mul-assoc q (2 ^ es) (2 ^ (L - t)) in
