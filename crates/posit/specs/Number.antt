@@ -39,6 +39,15 @@ magnitude es n p =
 unfoldable pub opposite : ℕ → ℕ → ℕ
 opposite n p = (2 ^ n - p) % 2 ^ n
 
+-- the pattern of a number's magnitude
+abbrev pub size : ℕ → ℕ → ℕ
+size n p = cond (ltb (2 ^ (n - 1)) p) (opposite n p) p
+
+-- m, or minus m
+abbrev pub withSign : Bool → ℕ → ℤ
+withSign true m = negℤ (pos m)
+withSign false m = pos m
+
 -- what a pattern stands for: NaR, or a real number counted in units
 pub data Number : Type 0 where
   nar : Number

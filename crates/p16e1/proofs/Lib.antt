@@ -1,0 +1,4 @@
+pub mod Products
+pub mod Whole
+pub mod Sizes
+pub mod Rows

@@ -1,0 +1,33 @@
+-- Bounds on a number in units of 2 ^ -28, from the pattern of its magnitude.
+use Prim.Native.Nat.{ℕ, _+_, _-_, _^_, _≤_, _<_}
+use mathlib.Core.Path.{_≡_, sym, ap, subst}
+use mathlib.Core.Logic.{⊎-elim}
+use native.Mathlib.Omega.{arith}
+use native.Mathlib.Nat.{eq-or-lt-of-le, le-of-eq, le-of-lt}
+use native.Mathlib.Decide.{decLt}
+use borrow.Author.Tests.{lt-ltb, le-ltb}
+use lib.Dec.{ltb, lit≤}
+use Rattle.posit.specs.Number.{magnitude, size}
+use Rattle.posit.proofs.Growth.{larger}
+use Rattle.posit.proofs.Complement.{opposite-is}
+
+pub no-larger : (u v : ℕ) → 1 ≤ u → u ≤ v → v ≤ 0x7fff → magnitude 1 16 u ≤ magnitude 1 16 v
+no-larger u v l h top = ⊎-elim (λ e. le-of-eq (ap (magnitude 1 16) e)) (λ k. le-of-lt (larger 1 16 u v (lit≤ tt) l k top)) (eq-or-lt-of-le h)
+
+pub size-plus : (p : ℕ) → p ≤ 0x8000 → size 16 p ≡ p
+size-plus p h = rw (le-ltb 0x8000 p h)
+
+pub size-minus : (p : ℕ) → 0x8000 < p → size 16 p ≡ 0x10000 - p
+size-minus p h = rw (lt-ltb 0x8000 p h) (opposite-is 16 p (omega arith))
+
+-- a pattern below v or above its opposite has a magnitude from 1 to v
+pub sized : (p v : ℕ) → 0 < p → p < 0x10000 → v ≤ 0x7fff → (v < p → 0x10000 ≤ p + v) → (1 ≤ size 16 p) × (size 16 p ≤ v)
+sized p v l h top out = go (decLt 0x8000 p)
+  where
+    go : Dec (0x8000 < p) → (1 ≤ size 16 p) × (size 16 p ≤ v)
+    go (yes k) = let e = size-minus p k in let q = out (omega arith) in (omega arith, omega arith)
+    go (no k) = let e = size-plus p (omega arith) in small (decLt v p) e
+      where
+        small : Dec (v < p) → size 16 p ≡ p → (1 ≤ size 16 p) × (size 16 p ≤ v)
+        small (yes j) e = let q = out j in (omega arith, omega arith)
+        small (no j) e = (omega arith, omega arith)
