@@ -1,3 +1,15 @@
 pub mod Floor
 pub mod Rows
+pub mod Exp
 pub mod Exp2
+pub mod Leading
+pub mod Ln
+pub mod Log2
+pub mod Quadrants
+pub mod SinPi
+pub mod CosPi
+pub mod TanPi
+pub mod AtanPi
+pub mod Root
+pub mod AsinPi
+pub mod AcosPi

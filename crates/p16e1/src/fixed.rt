@@ -1,6 +1,6 @@
 // Fixed-point steps that several functions share.
 ghost use mathlib.Core.Path.{_≡_};
-ghost use Prim.Native.Nat.{_+_, _^_, _≤_, _<_};
+ghost use Prim.Native.Nat.{_+_, _-_, _^_, _≤_, _<_};
 ghost use lib.IntN.{pos, _+ℤ_, _-ℤ_};
 ghost use Rattle.posit.specs.Number.{withSign};
 
@@ -19,4 +19,11 @@ pub fn less(a: u64, b: u64) -> i32
     ensures { λ r. ⌜ r ≡ pos a -ℤ pos b ⌝ }
 {
     a as i32 - b as i32
+}
+
+// How far a and b are apart.
+pub fn apart(a: u64, b: u64) -> u64
+    ensures { λ r. ⌜ r ≡ (a - b) + (b - a) ⌝ }
+{
+    if a < b { b - a } else { a - b }
 }

@@ -1,1 +1,10 @@
+pub mod acos_pi;
+pub mod asin_pi;
+pub mod atan_pi;
+pub mod cos_pi;
+pub mod exp;
 pub mod exp2;
+pub mod ln;
+pub mod log2;
+pub mod sin_pi;
+pub mod tan_pi;

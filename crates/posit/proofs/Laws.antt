@@ -7,7 +7,7 @@ use lib.Pow.{pow-pos, low}
 use lib.IntN.{ℤ, pos, negsuc, negℤ}
 use lib.Ieee.{up, down}
 use Rattle.posit.specs.Number.{magnitude, opposite, unit, Number, real, number}
-use Rattle.posit.specs.Rounding.{Cut, ratio, Rounded, Known, nought, plus, minus, Rounds, dyadic, divides, dividing, largest}
+use Rattle.posit.specs.Rounding.{Cut, ratio, Rounded, Known, nought, plus, minus, Rounds, negated, dyadic, divides, dividing, largest}
 use Rattle.posit.proofs.Compare.{OneWay, ratio-one-way}
 use Rattle.posit.proofs.Dyadic.{down-some}
 use Rattle.posit.proofs.Complement.{opposite-zero, opposite-is, opposite-twice, opposite-some}
@@ -38,11 +38,6 @@ one-answer es n few (minus c) w u v ru rv =
     sym (opposite-twice n u (s .0) (s .1)) ∙ ap (opposite n) (unique es n few c w (opposite n u) (opposite n v) ru rv) ∙ opposite-twice n v (t .0) (t .1)
 
 -- negation mirrors
-abbrev pub negated : Known → Known
-negated nought = nought
-negated (plus c) = minus c
-negated (minus c) = plus c
-
 pub mirrors : (es n : ℕ) → 3 ≤ n → (x : Known) (u : ℕ) → Rounds es n x u → Rounds es n (negated x) (opposite n u)
 mirrors es n few nought u r = ap (opposite n) r ∙ opposite-zero n
 mirrors es n few (plus c) u r =

@@ -3,7 +3,7 @@
 use Prim.Native.Nat.{ℕ, zero, suc, _+_, _-_, _*_, _%_, _^_, _≤_, compare, Ordering, Ordering·lt, Ordering·eq, Ordering·gt}
 use mathlib.Core.Path.{_≡_}
 use mathlib.Core.Logic.{_⊎_}
-use lib.IntN.{ℤ, pos, negsuc}
+use lib.IntN.{ℤ, pos, negsuc, negℤ}
 use lib.Ieee.{up, down}
 use Rattle.posit.specs.Number.{magnitude, unit, opposite}
 
@@ -59,8 +59,18 @@ Rounds es n nought u = u ≡ 0
 Rounds es n (plus c) u = Rounded es n c u
 Rounds es n (minus c) u = Rounded es n c (opposite n u)
 
--- the number k * 2 ^ e; "Rounded K/2^q" is the rule on K * 2 ^ -q
+-- minus a number
+abbrev pub negated : Known → Known
+negated nought = nought
+negated (plus c) = minus c
+negated (minus c) = plus c
+
+-- the number k * 2 ^ e
 abbrev pub dyadic : ℤ → ℤ → Known
 dyadic (pos zero) e = nought
 dyadic (pos (suc k)) e = plus (ratio (suc k * up e) (down e))
 dyadic (negsuc k) e = minus (ratio (suc k * up e) (down e))
+
+-- K / 2 ^ q: "Rounded K/2^q is that rule on the exact fraction"
+abbrev pub over : ℤ → ℕ → Known
+over k q = dyadic k (negℤ (pos q))
