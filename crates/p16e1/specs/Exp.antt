@@ -1,12 +1,10 @@
 -- Row 1 of document 01: exp.
 use Prim.Native.Nat.{ℕ, _+_, _*_, _/_, _^_}
-use mathlib.Core.Bool.{Bool, true, false, cond, _||_}
-use lib.Dec.{ltb}
 use lib.IntN.{ℤ, pos, _-ℤ_, _*ℤ_}
-use Rattle.posit.specs.Number.{Number, nar, real, number}
 use Rattle.posit.specs.Rounding.{Known, dyadic}
+use Rattle.p16e1.specs.Ends.{ends}
 use Rattle.p16e1.specs.Floor.{floor, modulo}
-use Rattle.p16e1.specs.Rows.{Row, names, rounds, within}
+use Rattle.p16e1.specs.Rows.{Row}
 
 -- P: `poly` of src/p16e1/math/exp.rs
 unfoldable pub poly : ℕ → ℕ
@@ -24,14 +22,6 @@ kernel q =
     let t = floor (q *ℤ pos 48408813) (2 ^ 28) in
     dyadic (pos (2 ^ 37 + poly (modulo t (2 ^ 25)))) (floor t (2 ^ 25) -ℤ pos 37)
 
-abbrev pub otherwise : Number → Row
-otherwise nar = names 0x8000
-otherwise (real q) = rounds (kernel q)
-
 -- "below 192 or above 65407: 0x4000; 28846 to 0x7FFF: 0x7FFF; 0x8001 to 36690: 0x0001; NaR: NaR"
-unfoldable pub row : ℕ → Row
-row p =
-    cond (ltb p 192 || ltb 65407 p) (names 0x4000)
-    (cond (within 28846 0x7fff p) (names 0x7fff)
-    (cond (within 0x8001 36690 p) (names 0x0001)
-    (otherwise (number 1 16 p))))
+abbrev pub row : ℕ → Row
+row = ends 192 65407 28846 36690 kernel

@@ -1,12 +1,10 @@
 -- Row 2 of document 01: exp2.
 use Prim.Native.Nat.{ℕ, _+_, _*_, _/_, _^_}
-use mathlib.Core.Bool.{Bool, true, false, cond, _||_}
-use lib.Dec.{ltb}
 use lib.IntN.{ℤ, pos, _-ℤ_}
-use Rattle.posit.specs.Number.{Number, nar, real, number}
 use Rattle.posit.specs.Rounding.{Known, dyadic}
+use Rattle.p16e1.specs.Ends.{ends}
 use Rattle.p16e1.specs.Floor.{floor, modulo}
-use Rattle.p16e1.specs.Rows.{Row, names, rounds, within}
+use Rattle.p16e1.specs.Rows.{Row}
 
 -- P: `poly` of src/p16e1/math/exp2.rs
 unfoldable pub poly : ℕ → ℕ
@@ -17,21 +15,13 @@ poly f =
     let d = f * (0x1EC0_4000 + c) / 2 ^ 21 in
     f * (0x2C5C_8000 + d) / 2 ^ 24
 
--- "t = x·2^20, n = floor(t/2^20); rounded (2^26 + P(t mod 2^20))·2^(n-26)", where x is q / 2 ^ 28. That t is whole is
--- said by its floor: document 01 has it whole for every pattern that comes here.
+-- "t = x·2^20, n = floor(t/2^20); rounded (2^26 + P(t mod 2^20))·2^(n-26)", where x is q / 2 ^ 28. t is whole for every
+-- pattern that comes here, so the floor in it takes nothing away.
 abbrev pub kernel : ℤ → Known
 kernel q =
     let t = floor q (2 ^ 8) in
     dyadic (pos (2 ^ 26 + poly (modulo t (2 ^ 20)))) (floor t (2 ^ 20) -ℤ pos 26)
 
-abbrev pub otherwise : Number → Row
-otherwise nar = names 0x8000
-otherwise (real q) = rounds (kernel q)
-
 -- "below 221 or above 65379: 0x4000; 29377 to 0x7FFF: 0x7FFF; 0x8001 to 36159: 0x0001; NaR: NaR"
-unfoldable pub row : ℕ → Row
-row p =
-    cond (ltb p 221 || ltb 65379 p) (names 0x4000)
-    (cond (within 29377 0x7fff p) (names 0x7fff)
-    (cond (within 0x8001 36159 p) (names 0x0001)
-    (otherwise (number 1 16 p))))
+abbrev pub row : ℕ → Row
+row = ends 221 65379 29377 36159 kernel

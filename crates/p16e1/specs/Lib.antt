@@ -1,5 +1,6 @@
 pub mod Floor
 pub mod Rows
+pub mod Ends
 pub mod Exp
 pub mod Exp2
 pub mod Leading

@@ -15,24 +15,10 @@ pub fn exp(p: u16) -> u16
     }
     if 28845 < p {
         if p < 36691 {
-            return saturated(p);
+            return crate::ends::saturated(p);
         }
     }
     kernel(p)
-}
-
-// The answers where e^x is past the ends of the posits, and the one to NaR between them.
-fn saturated(p: u16) -> u16
-    requires { ⌜ (28845 < p) × (p < 36691) ⌝ }
-    ensures { λ r. ⌜ Meets (row p) r ⌝ }
-{
-    if p < 0x8000 {
-        return 0x7fff;
-    }
-    if 0x8000 < p {
-        return 0x0001;
-    }
-    0x8000
 }
 
 // t is x / ln 2 + 32 with 25 bits of fraction, after 28 bits that are dropped.

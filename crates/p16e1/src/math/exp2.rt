@@ -15,24 +15,10 @@ pub fn exp2(p: u16) -> u16
     }
     if 29376 < p {
         if p < 36160 {
-            return saturated(p);
+            return crate::ends::saturated(p);
         }
     }
     kernel(p)
-}
-
-// The answers where 2^x is past the ends of the posits, and the one to NaR between them.
-fn saturated(p: u16) -> u16
-    requires { ⌜ (29376 < p) × (p < 36160) ⌝ }
-    ensures { λ r. ⌜ Meets (row p) r ⌝ }
-{
-    if p < 0x8000 {
-        return 0x7fff;
-    }
-    if 0x8000 < p {
-        return 0x0001;
-    }
-    0x8000
 }
 
 // t is x + 32 in units of 2^-28: floor(x) stands above bit 28, and 20 bits of what is left above bit 8.

@@ -4,21 +4,24 @@ use borrow.Author.Needs.{needs}
 use Prim.Native.Nat.{_≤_}
 use mathlib.Core.Logic.{inl, inr, ⊎-elim}
 use native.Mathlib.Omega.{arith}
-use Rattle.p16e1.proofs.Rows.Exp2.{near-one}
+use Rattle.p16e1.specs.Exp2.{kernel}
+use Rattle.p16e1.proofs.Rows.Ends.{near-one, past-ends}
+use Rattle.p16e1.proofs.Rows.Exp2.{ordered}
 use Rattle.p16e1.proofs.math.exp2.exp2.Statement.{statement}
 use Rattle.p16e1.proofs.math.exp2.exp2.Tie as tie
 
 returns : tie.Need-returns
-returns c = rw (near-one (c .before .args .p) (inl (c .if1 .taken)))
+returns c = rw (near-one 221 65379 29377 36159 ordered kernel (c .before .args .p) (inl (c .if1 .taken)))
 
 returns-2 : tie.Need-returns-2
-returns-2 c = rw (near-one (c .before .before .args .p) (inr (c .if2 .taken)))
+returns-2 c = rw (near-one 221 65379 29377 36159 ordered kernel (c .before .before .args .p) (inr (c .if2 .taken)))
 
 saturated-requires : tie.Need-saturated-requires
 saturated-requires c κs = search needs
 
 returns-3 : tie.Need-returns-3
-returns-3 c = search needs
+returns-3 c =
+    rw (past-ends 221 65379 29377 36159 ordered kernel (c .before .before .before .before .before .args .p) (omega arith) (omega arith)) (c .saturated .ensures)
 
 kernel-requires : tie.Need-kernel-requires
 kernel-requires c κs = (search needs, search needs, λ h. ⊎-elim (λ w. omega arith) (λ w. omega arith) (c .if3 .came))

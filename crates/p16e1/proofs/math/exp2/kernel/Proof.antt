@@ -11,9 +11,10 @@ use mir.Val.{toZ, ofZ}
 use mir.Facts.{toZ-ofZ}
 use Rattle.posit.specs.Number.{magnitude, size, run, withSign}
 use Rattle.posit.specs.Rounding.{dyadic, Rounds}
-use Rattle.p16e1.specs.Exp2.{poly}
+use Rattle.p16e1.specs.Exp2.{poly, kernel}
 use Rattle.p16e1.proofs.Sizes.{no-larger, sized}
-use Rattle.p16e1.proofs.Rows.Exp2.{by-kernel, kernel-moved}
+use Rattle.p16e1.proofs.Rows.Ends.{by-kernel}
+use Rattle.p16e1.proofs.Rows.Exp2.{ordered, kernel-moved}
 use Rattle.p16e1.proofs.math.exp2.kernel.Statement.{statement}
 use Rattle.p16e1.proofs.math.exp2.kernel.Tie as tie
 
@@ -62,7 +63,7 @@ returns c =
     let t = c .before .before .before .moved .result in
     let x : c .before .before .before .before .units .result ≡ magnitude 1 16 (size 16 p) = c .before .before .before .before .units .ensures ∙ ap (magnitude 1 16) (s .signed .ensures) in
     let z : withSign (ltb 0x8000 p) (magnitude 1 16 (size 16 p)) +ℤ pos (2 ^ 33) ≡ pos t = subst (λ (y : ℕ). withSign (ltb 0x8000 p) y +ℤ pos (2 ^ 33) ≡ pos t) x (c .before .before .before .moved .ensures .0) in
-    rw (by-kernel p (h .0) (h .1) (h .2), kernel-moved (withSign (ltb 0x8000 p) (magnitude 1 16 (size 16 p))) t z)
+    rw (by-kernel 221 65379 29377 36159 ordered kernel p (h .0) (h .1) (h .2), kernel-moved (withSign (ltb 0x8000 p) (magnitude 1 16 (size 16 p))) t z)
     (subst (λ (y : ℤ). Rounds 1 16 (dyadic (pos (2 ^ 26 + poly (t / 2 ^ 8 % 2 ^ 20))) y) r) (toZ-ofZ (record { sfits = c .before .less .ok }) ∙ c .before .less .ensures)
     (subst (λ (y : ℕ). Rounds 1 16 (dyadic (pos (2 ^ 26 + y)) (toZ w32 (ofZ w32 (c .before .less .result)))) r) (c .before .before .exp2-poly .ensures .0) (c .round .ensures)))
 
