@@ -2,4 +2,5 @@ pub mod Products
 pub mod Whole
 pub mod Sizes
 pub mod Signs
+pub mod OneAnswer
 pub mod Rows

@@ -1,12 +1,11 @@
--- The sign of an answer: what is put back on a row's answer, and that a row has one answer.
-use Prim.Native.Nat.{ℕ, zero, suc, _≤_, _<_}
-use mathlib.Core.Path.{_≡_, _∙_, sym, ap, refl}
+-- The sign that is put back on a row's answer.
+use Prim.Native.Nat.{ℕ, zero, suc, _<_}
+use mathlib.Core.Path.{_≡_, ap, refl}
 use mathlib.Core.Bool.{Bool, true, false, cond}
 use native.Mathlib.Omega.{arith}
 use lib.Dec.{lit≤}
 use Rattle.posit.specs.Number.{opposite, withSign}
-use Rattle.posit.specs.Rounding.{Known}
-use Rattle.posit.proofs.Laws.{Straight, one-answer, mirrors}
+use Rattle.posit.proofs.Laws.{mirrors}
 use Rattle.p16e1.specs.Rows.{Row, names, rounds, Meets, opposed, bySign}
 
 pub opposed-meets : (w : Row) (r : ℕ) → Meets w r → Meets (opposed w) (opposite 16 r)
@@ -21,12 +20,3 @@ pub by-sign : (f : ℕ → Row) (b : Bool) (m : ℕ) → 0 < m → bySign f (wit
 by-sign f true zero l = absurd (omega arith)
 by-sign f true (suc m) l = refl
 by-sign f false m l = refl
-
--- any two answers that a row allows are equal
-abbrev pub StraightRow : Row → Type 0
-StraightRow (names u) = Unit {0}
-StraightRow (rounds x) = Straight x
-
-pub row-answer : (w : Row) → StraightRow w → (r s : ℕ) → Meets w r → Meets w s → r ≡ s
-row-answer (names u) t r s m n = m ∙ sym n
-row-answer (rounds x) t r s m n = one-answer 1 16 (lit≤ tt) x t r s m n

@@ -1,12 +1,12 @@
 -- Bounds on a number in units of 2 ^ -28, from the pattern of its magnitude.
-use Prim.Native.Nat.{ℕ, _+_, _-_, _^_, _≤_, _<_}
-use mathlib.Core.Path.{_≡_, sym, ap, subst}
+use Prim.Native.Nat.{ℕ, _+_, _-_, _≤_, _<_}
+use mathlib.Core.Path.{_≡_, ap}
 use mathlib.Core.Logic.{⊎-elim}
 use native.Mathlib.Omega.{arith}
 use native.Mathlib.Nat.{eq-or-lt-of-le, le-of-eq, le-of-lt}
 use native.Mathlib.Decide.{decLt}
 use borrow.Author.Tests.{lt-ltb, le-ltb}
-use lib.Dec.{ltb, lit≤}
+use lib.Dec.{lit≤}
 use Rattle.posit.specs.Number.{magnitude, size}
 use Rattle.posit.proofs.Growth.{larger}
 use Rattle.posit.proofs.Complement.{opposite-is}
@@ -31,3 +31,19 @@ sized p v l h top out = go (decLt 0x8000 p)
         small : Dec (v < p) → size 16 p ≡ p → (1 ≤ size 16 p) × (size 16 p ≤ v)
         small (yes j) e = let q = out j in (omega arith, omega arith)
         small (no j) e = (omega arith, omega arith)
+
+-- only zero has the magnitude zero
+pub size-zero : (p : ℕ) → p < 0x10000 → size 16 p ≡ 0 → p ≡ 0
+size-zero p h z = go (decLt 0x8000 p)
+  where
+    go : Dec (0x8000 < p) → p ≡ 0
+    go (yes k) = let e = size-minus p k in omega arith
+    go (no k) = let e = size-plus p (omega arith) in omega arith
+
+-- a pattern of another real number
+pub size-some : (p : ℕ) → p < 0x10000 → (p ≡ 0x8000 → ⊥) → (size 16 p ≡ 0 → ⊥) → (0 < p) × (1 ≤ size 16 p) × (size 16 p ≤ 0x7fff)
+size-some p h real some = go (decLt 0x8000 p)
+  where
+    go : Dec (0x8000 < p) → (0 < p) × (1 ≤ size 16 p) × (size 16 p ≤ 0x7fff)
+    go (yes k) = let e = size-minus p k in (omega arith, omega arith, omega arith)
+    go (no k) = let e = size-plus p (omega arith) in (omega arith, omega arith, omega arith)

@@ -37,6 +37,9 @@ alike m n m' n' Ordering·gt Ordering·gt (more h) (more k) f g j = refl
 pub compare-alike : (m n m' n' : ℕ) → (m < n → m' < n') → (m ≡ n → m' ≡ n') → (n < m → n' < m') → compare m n ≡ compare m' n'
 compare-alike m n m' n' = alike m n m' n' (compare m n) (compare m' n') (told m n) (told m' n')
 
+pub compare-is : (m n : ℕ) (o : Ordering) → Told m n o → compare m n ≡ o
+compare-is m n o t = alike m n m n (compare m n) o (told m n) t (λ h. h) (λ h. h) (λ h. h)
+
 -- the two tests of the rounding rule, from the numbers compared
 reached-of : (m n u : ℕ) (o : Ordering) → Told m n o → m ≤ n → (m ≡ n → u % 2 ≡ 0) → Reached o u
 reached-of m n u Ordering·lt (less h) l e = tt

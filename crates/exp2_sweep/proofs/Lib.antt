@@ -1,0 +1,10 @@
+pub mod Compare
+pub mod Bounds
+pub mod Stands
+pub mod Unique
+pub mod OneAnswer
+pub mod Picks
+pub mod Agreed
+pub mod Sweep
+pub mod Sweeps
+pub mod Whole
