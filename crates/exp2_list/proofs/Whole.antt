@@ -8,7 +8,8 @@ use Rattle.p16e1.specs.Rows.{Meets}
 use Rattle.p16e1.specs.Exp2.{row}
 use Rattle.exp2_sweep.specs.Power.{Picked}
 use Rattle.exp2_sweep.proofs.Agreed.{Agreed}
-use Rattle.exp2_sweep.proofs.OneAnswer.{one-answer, one-picked}
+use Rattle.p16e1.proofs.OneAnswer.{exp2-one}
+use Rattle.exp2_sweep.proofs.OnePicked.{one-picked}
 use Rattle.exp2_sweep.proofs.Whole.{agreed}
 use Rattle.exp2_list.specs.Differing.{Listed, Compared, Exp2List}
 
@@ -20,7 +21,7 @@ compared p a =
     record {
       answer = a .answer;
       meets = a .meets;
-      only-answer = λ r m. one-answer p r (a .answer) m (a .meets);
+      only-answer = λ r m. exp2-one p r (a .answer) m (a .meets);
       picked = a .answer;
       picks = a .picked;
       only-picked = λ u m. one-picked (number 1 16 p) u (a .answer) m (a .picked);
@@ -37,4 +38,4 @@ exp2-list p pattern finite = compared p (agreed p pattern finite)
 pub exp2-exact : (p r : ℕ) → p < 2 ^ 16 → (p ≡ 0x8000 → ⊥) → Meets (row p) r → Picked (number 1 16 p) r
 exp2-exact p r pattern finite m =
     let a = agreed p pattern finite in
-    subst⁻¹ (Picked (number 1 16 p)) (one-answer p r (a .answer) m (a .meets)) (a .picked)
+    subst⁻¹ (Picked (number 1 16 p)) (exp2-one p r (a .answer) m (a .meets)) (a .picked)

@@ -1,8 +1,6 @@
-pub mod Compare
 pub mod Bounds
 pub mod Stands
-pub mod Unique
-pub mod OneAnswer
+pub mod OnePicked
 pub mod Picks
 pub mod Agreed
 pub mod Sweep

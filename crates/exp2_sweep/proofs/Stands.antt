@@ -8,8 +8,8 @@ use native.Mathlib.Omega.{arith}
 use lib.Dec.{T, leb, ltb, leb→le, ltb→lt}
 use lib.Ieee.Fits.{and-l, and-r}
 use lib.IntN.{ℤ, pos, negsuc, _+ℤ_}
+use Rattle.posit.proofs.Compare.{less, same, more, compare-is}
 use Rattle.exp2_sweep.specs.Power.{against, powerCut}
-use Rattle.exp2_sweep.proofs.Compare.{less, same, more, compare-is}
 use Rattle.exp2_sweep.proofs.Bounds.{lower, upper, lower-holds, upper-holds, under-one, over-one, at-most-one, at-least-one}
 
 -- d ^ (2 ^ 28) stands so to 2 ^ e

@@ -14,3 +14,4 @@ pub mod AtanPi
 pub mod Root
 pub mod AsinPi
 pub mod AcosPi
+pub mod Functions

@@ -2,10 +2,13 @@
 // own under math/, named as in the crate softposit 0.4.0.
 mod ends;
 mod fixed;
+mod functions;
 mod kernel;
 mod math;
 mod quadrant;
 
+pub use functions::Answered;
+pub use functions::answer;
 pub use math::acos_pi::acos_pi;
 pub use math::asin_pi::asin_pi;
 pub use math::atan_pi::atan_pi;

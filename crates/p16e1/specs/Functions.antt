@@ -1,0 +1,48 @@
+-- "Function numbers: 1 exp, 2 exp2, 3 ln, 4 log2, 5 sin_pi, 6 cos_pi, 7 tan_pi, 8 atan_pi, 9 asin_pi, 10 acos_pi."
+use Prim.Native.Nat.{ℕ}
+use mathlib.Core.Path.{_≡_}
+use mathlib.Core.Bool.{Bool, true, false, cond}
+use lib.Dec.{eqb}
+use Rattle.posit.specs.Answer as Rounding
+use Rattle.p16e1.specs.Rows.{Row, names, rounds, Meets, within}
+use Rattle.p16e1.specs.Exp as Exp
+use Rattle.p16e1.specs.Exp2 as Exp2
+use Rattle.p16e1.specs.Ln as Ln
+use Rattle.p16e1.specs.Log2 as Log2
+use Rattle.p16e1.specs.SinPi as SinPi
+use Rattle.p16e1.specs.CosPi as CosPi
+use Rattle.p16e1.specs.TanPi as TanPi
+use Rattle.p16e1.specs.AtanPi as AtanPi
+use Rattle.p16e1.specs.AsinPi as AsinPi
+use Rattle.p16e1.specs.AcosPi as AcosPi
+use Rattle.p16e1.specs.declared.functions.Answered.{Answered}
+use Rattle.p16e1.specs.declared.functions.Answered.the-variants.{Pattern, Unknown}
+
+abbrev pub known : ℕ → Bool
+known f = within 1 10 f
+
+-- the row of a known function, at the pattern p
+unfoldable pub rowOf : ℕ → ℕ → Row
+rowOf f p =
+    cond (eqb f 1) (Exp.row p)
+    (cond (eqb f 2) (Exp2.row p)
+    (cond (eqb f 3) (Ln.row p)
+    (cond (eqb f 4) (Log2.row p)
+    (cond (eqb f 5) (SinPi.row p)
+    (cond (eqb f 6) (CosPi.row p)
+    (cond (eqb f 7) (TanPi.row p)
+    (cond (eqb f 8) (AtanPi.row p)
+    (cond (eqb f 9) (AsinPi.row p) (AcosPi.row p)))))))))
+
+-- what each answer means
+abbrev pub Answers : ℕ → ℕ → Answered → Type 0
+Answers f p (Pattern r) = (known f ≡ true) × Meets (rowOf f p) r
+Answers f p Unknown = known f ≡ false
+
+-- the answer that a row has, computed: Meets says that it is the row's
+abbrev pub answerTo : Row → ℕ
+answerTo (names u) = u
+answerTo (rounds x) = Rounding.answer 1 16 x
+
+unfoldable pub answerOf : ℕ → ℕ → ℕ
+answerOf f p = answerTo (rowOf f p)
