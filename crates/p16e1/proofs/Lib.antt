@@ -2,5 +2,10 @@ pub mod Products
 pub mod Whole
 pub mod Sizes
 pub mod Signs
+pub mod Leading
+pub mod Arcs
+pub mod Roots
+pub mod Sweep
+pub mod Sweeps
 pub mod OneAnswer
 pub mod Rows

@@ -1,6 +1,11 @@
+pub mod AcosPi
+pub mod AsinPi
+pub mod AtanPi
 pub mod CosPi
 pub mod Ends
+pub mod Exp
 pub mod Exp2
+pub mod Logarithms
 pub mod Odd
 pub mod Quadrants
 pub mod SinPi

@@ -1,13 +1,13 @@
 -- Bounds on a number in units of 2 ^ -28, from the pattern of its magnitude.
-use Prim.Native.Nat.{ℕ, _+_, _-_, _≤_, _<_}
-use mathlib.Core.Path.{_≡_, ap}
+use Prim.Native.Nat.{ℕ, zero, suc, _+_, _-_, _^_, _≤_, _<_}
+use mathlib.Core.Path.{_≡_, ap, refl}
 use mathlib.Core.Logic.{⊎-elim}
 use native.Mathlib.Omega.{arith}
-use native.Mathlib.Nat.{eq-or-lt-of-le, le-of-eq, le-of-lt}
+use native.Mathlib.Nat.{eq-or-lt-of-le, le-of-eq, le-of-lt, le-trans}
 use native.Mathlib.Decide.{decLt}
 use borrow.Author.Tests.{lt-ltb, le-ltb}
 use lib.Dec.{lit≤}
-use Rattle.posit.specs.Number.{magnitude, size}
+use Rattle.posit.specs.Number.{magnitude, run, size}
 use Rattle.posit.proofs.Growth.{larger}
 use Rattle.posit.proofs.Complement.{opposite-is}
 
@@ -32,6 +32,14 @@ sized p v l h top out = go (decLt 0x8000 p)
         small (yes j) e = let q = out j in (omega arith, omega arith)
         small (no j) e = (omega arith, omega arith)
 
+-- and its number x is at most that of v
+pub no-farther : (p v x : ℕ) → 0 < p → p < 0x10000 → v ≤ 0x7fff → (v < p → 0x10000 ≤ p + v) → x ≡ magnitude 1 16 (size 16 p) → x ≤ magnitude 1 16 v
+no-farther p v x l h top out e = let s = sized p v l h top out in le-trans (le-of-eq e) (no-larger (size 16 p) v (s .0) (s .1) top)
+
+-- one that is neither 0 nor NaR has the magnitude of a posit
+pub proper : (p : ℕ) → 0 < p → p < 0x10000 → (p ≡ 0x8000 → ⊥) → (1 ≤ size 16 p) × (size 16 p ≤ 0x7fff)
+proper p l h out = sized p 0x7fff l h (lit≤ tt) (λ k. omega arith)
+
 -- only zero has the magnitude zero
 pub size-zero : (p : ℕ) → p < 0x10000 → size 16 p ≡ 0 → p ≡ 0
 size-zero p h z = go (decLt 0x8000 p)
@@ -42,8 +50,36 @@ size-zero p h z = go (decLt 0x8000 p)
 
 -- a pattern of another real number
 pub size-some : (p : ℕ) → p < 0x10000 → (p ≡ 0x8000 → ⊥) → (size 16 p ≡ 0 → ⊥) → (0 < p) × (1 ≤ size 16 p) × (size 16 p ≤ 0x7fff)
-size-some p h real some = go (decLt 0x8000 p)
+size-some p h real some =
+    let l : 0 < p = zero-not p some in
+    let s = proper p l h real in
+    (l, s .0, s .1)
   where
-    go : Dec (0x8000 < p) → (0 < p) × (1 ≤ size 16 p) × (size 16 p ≤ 0x7fff)
-    go (yes k) = let e = size-minus p k in (omega arith, omega arith, omega arith)
-    go (no k) = let e = size-plus p (omega arith) in (omega arith, omega arith, omega arith)
+    zero-not : (p : ℕ) → (size 16 p ≡ 0 → ⊥) → 0 < p
+    zero-not zero some = absurd (some refl)
+    zero-not (suc p) some = omega arith
+
+-- the patterns of 1/2 and of 1, and the numbers on either side of them
+half : magnitude 1 16 0x3000 ≡ 2 ^ 27
+unfolding magnitude run
+half = refl
+
+one : magnitude 1 16 0x4000 ≡ 2 ^ 28
+unfolding magnitude run
+one = refl
+
+module _ (u : ℕ) where
+  pub to-half : 1 ≤ u → u ≤ 0x3000 → magnitude 1 16 u ≤ 2 ^ 27
+  to-half l h = rw half at (no-larger u 0x3000 l h (lit≤ tt))
+
+  pub from-half : 0x3000 ≤ u → u ≤ 0x7fff → 2 ^ 27 ≤ magnitude 1 16 u
+  from-half l h = rw half at (no-larger 0x3000 u (lit≤ tt) l h)
+
+  pub to-one : 1 ≤ u → u ≤ 0x4000 → magnitude 1 16 u ≤ 2 ^ 28
+  to-one l h = rw one at (no-larger u 0x4000 l h (lit≤ tt))
+
+  pub below-one : 1 ≤ u → u < 0x4000 → magnitude 1 16 u < 2 ^ 28
+  below-one l h = rw one at (larger 1 16 u 0x4000 (lit≤ tt) l h (lit≤ tt))
+
+  pub from-one : 0x4000 ≤ u → u ≤ 0x7fff → 2 ^ 28 ≤ magnitude 1 16 u
+  from-one l h = rw one at (no-larger 0x4000 u (lit≤ tt) l h)

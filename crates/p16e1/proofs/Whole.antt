@@ -1,14 +1,12 @@
 -- Differences of naturals as whole numbers, and floors of a number that is moved up to lie above zero.
 use Prim.Native.Nat.{ℕ, zero, suc, _+_, _-_, _*_, _/_, _%_, _≤_, _<_}
-use mathlib.Core.Path.{_≡_, _∙_, subst, sym, ap, refl}
-use mathlib.Core.Bool.{Bool, true, false, cond}
+use mathlib.Core.Path.{_≡_, _∙_, sym, ap}
 use native.Mathlib.Omega.{arith}
 use native.Mathlib.Nat.{lt-of-mul-lt-mul-right, add-mul, suc-mul, mod-lt, div-add-mod', add-mul-div-right, add-mul-mod-self-right}
 use native.Mathlib.Decide.{decLt}
 use borrow.Author.Tests.{lt-ltb, le-ltb}
-use lib.Dec.{ltb}
 use lib.Arith.{digits-div, digits-mod}
-use lib.IntN.{ℤ, pos, negsuc, subℕ, negℤ, _+ℤ_, _-ℤ_, +ℤ-negℤ-cancel}
+use lib.IntN.{ℤ, pos, negsuc, subℕ, _+ℤ_, _-ℤ_, +ℤ-negℤ-cancel}
 use lib.Signed.{mag}
 use Rattle.p16e1.specs.Floor.{floor, modulo}
 
@@ -59,11 +57,18 @@ floors (negsuc a) B m t l e =
     few-enough : (k B m : ℕ) → k * m < B * m → suc k ≤ B
     few-enough k B m h = lt-of-mul-lt-mul-right m h
 
+pub minus-below : (a b : ℕ) → a < b → pos a -ℤ pos b ≡ negsuc (b - suc a)
+minus-below a zero h = absurd (omega arith)
+minus-below a (suc b) h = rw (lt-ltb a (suc b) h)
+
+pub minus-above : (a b : ℕ) → b ≤ a → pos a -ℤ pos b ≡ pos (a - b)
+minus-above a zero h = ap pos (omega arith)
+minus-above a (suc b) h = rw (le-ltb a (suc b) h)
+
 -- a difference of two small naturals is small
 pub mag-small : (a b w : ℕ) → a < w → b < w → mag (pos a -ℤ pos b) < w
-mag-small a zero w h k = subst (λ (x : ℕ). x < w) (let e : a ≡ a + 0 = omega arith in e) h
-mag-small a (suc b) w h k = go (decLt a (suc b))
+mag-small a b w h k = go (decLt a b)
   where
-    go : Dec (a < suc b) → mag (subℕ a (suc b)) < w
-    go (yes l) = rw (lt-ltb a (suc b) l) (omega arith)
-    go (no l) = rw (le-ltb a (suc b) (omega arith)) (omega arith)
+    go : Dec (a < b) → mag (pos a -ℤ pos b) < w
+    go (yes l) = rw (minus-below a b l) (omega arith)
+    go (no l) = rw (minus-above a b (omega arith)) (omega arith)

@@ -14,11 +14,11 @@ use Rattle.posit.specs.Number.{opposite}
 use Rattle.posit.specs.Answer.{passes, reaches, descend, answer}
 use Rattle.posit.proofs.Complement.{opposite-twice}
 
-record Edge (f : ℕ → Bool) (u : ℕ) : Type 0 where
-  inside : f u ≡ true
-  outside : f (u + 1) ≡ false
+pub record Edge (f : ℕ → Bool) (u : ℕ) : Type 0 where
+  pub inside : f u ≡ true
+  pub outside : f (u + 1) ≡ false
 
-descends : (f : ℕ → Bool) (k u : ℕ) → f u ≡ true → f (u + 2 ^ k) ≡ false → Edge f (descend f k u)
+pub descends : (f : ℕ → Bool) (k u : ℕ) → f u ≡ true → f (u + 2 ^ k) ≡ false → Edge f (descend f k u)
 unfolding descend
 descends f zero u i o = record { inside = i; outside = o }
 descends f (suc k) u i o =

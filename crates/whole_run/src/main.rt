@@ -26,7 +26,14 @@ fn main() {
 
 // Compares one function's table and prints its line. An input that ends early leaves patterns out of the count.
 fn table(function: u16) {
-    let low = half(function, 0, Tally { compared: 0, differ: 0 });
+    let low = half(
+        function,
+        0,
+        Tally {
+            compared: 0,
+            differ: 0,
+        },
+    );
     let high = half(function, 32768, low);
     print::name(function);
     print::line(b" patterns compared, ", high.compared, high.differ);

@@ -1,17 +1,21 @@
 -- What rows 1 and 2 say, case by case, over the four numbers in which they differ; and the floors of their kernels.
-use Prim.Native.Nat.{ℕ, suc, _+_, _*_, _/_, _%_, _≤_, _<_}
-use mathlib.Core.Path.{_≡_, _∙_, ap}
+use Prim.Native.Nat.{ℕ, suc, _+_, _*_, _/_, _%_, _^_, _≤_, _<_}
+use mathlib.Core.Path.{_≡_, _∙_, ap, sym, subst}
 use mathlib.Core.Logic.{_⊎_, ⊎-elim}
 use native.Mathlib.Omega.{arith}
 use native.Mathlib.Decide.{decLt}
 use borrow.Author.Tests.{lt-ltb, le-ltb, le-leb, lt-leb}
 use lib.Dec.{ltb}
 use lib.IntN.{ℤ, pos, negsuc, _+ℤ_, _-ℤ_, +ℤ-assoc}
+use lib.Signed.{mag}
+use mir.Syntax.{w32}
+use mir.Val.{toZ, ofZ}
+use mir.Facts.{toZ-ofZ}
 use Rattle.posit.specs.Number.{number, magnitude, size, withSign}
-use Rattle.posit.specs.Rounding.{Known}
+use Rattle.posit.specs.Rounding.{Known, dyadic, Rounds}
 use Rattle.posit.proofs.Patterns.{number-nar, number-signed}
 use Rattle.p16e1.specs.Floor.{floor, modulo}
-use Rattle.p16e1.specs.Rows.{names, rounds}
+use Rattle.p16e1.specs.Rows.{names, rounds, Meets}
 use Rattle.p16e1.specs.Ends.{ends, beyond, otherwise}
 use Rattle.p16e1.proofs.Whole.{Floors, floors, moved-back}
 
@@ -60,12 +64,18 @@ module _ (a b c d : ℕ) (o : Ordered a b c d) (kernel : ℤ → Known) where
           let e : p ≡ 0x8000 = omega arith in
           rw (le-ltb p 0x8000 (omega arith), le-ltb 0x8000 p (omega arith)) (ap (ends a b c d kernel) e ∙ nar-itself)
 
-  pub by-kernel : (p : ℕ) → a ≤ p → p ≤ b → (c ≤ p → d < p) → ends a b c d kernel p ≡ rounds (kernel (withSign (ltb 0x8000 p) (magnitude 1 16 (size 16 p))))
+  by-kernel : (p : ℕ) → a ≤ p → p ≤ b → (c ≤ p → d < p) → ends a b c d kernel p ≡ rounds (kernel (withSign (ltb 0x8000 p) (magnitude 1 16 (size 16 p))))
   by-kernel p l h out =
       inside p l h (λ q r. let k = out q in omega arith) (λ q r. let k = out (omega arith) in omega arith)
       ∙ ap (otherwise kernel) (number-signed 1 16 p (omega arith) (λ e. let k = out (omega arith) in omega arith))
 
--- z + 32 * M * m is t: the floor of floor(z / m) / M, the e that is taken off it, and the rest
+  -- the answer is what posit::round gives for the kernel's number, the parts of which were computed as f and e
+  pub kernel-meets : {f g : ℕ} {e n : ℤ} (p x K r : ℕ) → a ≤ p → p ≤ b → (c ≤ p → d < p) → x ≡ magnitude 1 16 (size 16 p) → kernel (withSign (ltb 0x8000 p) x) ≡ dyadic (pos (K + g)) n → f ≡ g → e ≡ n → mag e < 2 ^ 31 → Rounds 1 16 (dyadic (pos (K + f)) (toZ w32 (ofZ w32 e))) r → Meets (ends a b c d kernel p) r
+  kernel-meets {g = g} {n = n} p x K r l h out s k u v fits m =
+      let is : kernel (withSign (ltb 0x8000 p) (magnitude 1 16 (size 16 p))) ≡ dyadic (pos (K + g)) n = ap (λ (y : ℕ). kernel (withSign (ltb 0x8000 p) y)) (sym s) ∙ k in
+      rw (by-kernel p l h out, is) (subst (λ (y : Known). Rounds 1 16 y r) (λ i. dyadic (pos (K + u i)) ((toZ-ofZ {w = w32} (record { sfits = fits }) ∙ v) i)) m)
+
+-- z + 32 * M * m is t: what is rounded, by the floor of floor(z / m) / M and the rest, is known by those of t
 module _ (z : ℤ) (m M t : ℕ) (some : 0 < m) (more : 0 < M) (moved : z +ℤ pos (32 * M * m) ≡ pos t) where
   once : Floors z (32 * M) m t
   once = floors z (32 * M) m t some moved
@@ -73,10 +83,10 @@ module _ (z : ℤ) (m M t : ℕ) (some : 0 < m) (more : 0 < M) (moved : z +ℤ p
   twice : Floors (floor z m) 32 M (t / m)
   twice = floors (floor z m) 32 M (t / m) more (once .whole)
 
-  pub rest-moved : modulo (floor z m) M ≡ t / m % M
-  rest-moved = twice .rest
-
-  pub power-moved : (e : ℕ) → floor (floor z m) M -ℤ pos (suc e) ≡ pos (t / m / M) +ℤ negsuc (suc (31 + e))
+  power-moved : (e : ℕ) → floor (floor z m) M -ℤ pos (suc e) ≡ pos (t / m / M) +ℤ negsuc (suc (31 + e))
   power-moved e =
       ap (λ (x : ℤ). x -ℤ pos (suc e)) (moved-back (floor (floor z m) M) 32 (t / m / M) (twice .whole))
       ∙ +ℤ-assoc (pos (t / m / M)) (negsuc 31) (negsuc e)
+
+  pub parts-moved : (K e : ℕ) (poly : ℕ → ℕ) → dyadic (pos (K + poly (modulo (floor z m) M))) (floor (floor z m) M -ℤ pos (suc e)) ≡ dyadic (pos (K + poly (t / m % M))) (pos (t / m / M) +ℤ negsuc (suc (31 + e)))
+  parts-moved K e poly = λ i. dyadic (pos (K + poly (twice .rest i))) (power-moved e i)

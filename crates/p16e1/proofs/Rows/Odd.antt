@@ -5,13 +5,12 @@ use mathlib.Core.Path.{_≡_}
 use mathlib.Core.Bool.{cond}
 use native.Mathlib.Omega.{arith}
 use borrow.Author.Tests.{le-leb, lt-leb}
-use lib.Dec.{ltb, lit≤}
+use lib.Dec.{ltb}
 use lib.IntN.{ℤ}
 use Rattle.posit.specs.Number.{Number, nar, real, number, magnitude, opposite, size}
-use Rattle.posit.proofs.Own.{magnitude-some}
-use Rattle.posit.proofs.Patterns.{number-zero, number-nar, number-signed}
+use Rattle.posit.proofs.Patterns.{number-zero, number-nar}
 use Rattle.p16e1.specs.Rows.{Row, names, Meets, within, bySign}
-use Rattle.p16e1.proofs.Signs.{signed-meets, by-sign}
+use Rattle.p16e1.proofs.Signs.{number-meets}
 use Rattle.p16e1.proofs.Sizes.{size-zero, size-some}
 
 -- a row that has its whole numbers apart
@@ -39,7 +38,5 @@ module _ {other : Number → Row} {f : ℕ → Row} (odd : Odd other f) (p : ℕ
       pub sign-back : s ≤ 31743 → (s ≡ 0 → ⊥) → (x u r : ℕ) → x ≡ magnitude 1 16 s → Meets (f x) u → r ≡ cond (ltb 0x8000 p) (opposite 16 u) u → Meets (whole-apart other p) r
       sign-back k some x u r units meets signed =
           let z = size-some p h not-nar (λ e. some (omega arith)) in
-          let m : ℕ = magnitude 1 16 (size 16 p) in
-          let meets-here : Meets (f m) u = rw (units, sized) at meets in
-          rw (signed, lt-leb 31744 (size 16 p) (omega arith), number-signed 1 16 p (z .0) not-nar, odd .at-real, by-sign f (ltb 0x8000 p) m (magnitude-some 1 16 (size 16 p) (lit≤ tt) (z .1) (z .2)))
-          (signed-meets (ltb 0x8000 p) (f m) u meets-here)
+          let meets-here : Meets (f (magnitude 1 16 (size 16 p))) u = rw (units, sized) at meets in
+          rw (signed, lt-leb 31744 (size 16 p) (omega arith)) (number-meets p other f (odd .at-real) (z .0) h not-nar u meets-here)
