@@ -7,5 +7,7 @@ pub mod Arcs
 pub mod Roots
 pub mod Sweep
 pub mod Sweeps
+pub mod Straight
 pub mod OneAnswer
+pub mod ByNumber
 pub mod Rows

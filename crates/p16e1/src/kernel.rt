@@ -1,5 +1,5 @@
 // The square root that asin_pi and acos_pi take, bit by bit from the highest, as in src/p16e1/math.rs.
-ghost use Prim.Native.Nat.{_^_, _<_};
+ghost use Prim.Native.Nat.{_-_, _^_, _<_, min};
 ghost use Rattle.p16e1.specs.Root.{Root};
 
 // The floor of the square root of f.
@@ -23,4 +23,15 @@ pub fn isqrt(f: u64) -> u64
         bit >>= 2;
     }
     res
+}
+
+// The same for every f, which is held below 2^56: asin_pi and acos_pi take roots of at most 2^54.
+pub fn square_root(f: u64) -> u64
+    ensures { λ r. ⌜ Root (min f (2 ^ 56 - 1)) r ⌝ }
+{
+    if f < 0x0100_0000_0000_0000 {
+        isqrt(f)
+    } else {
+        0x0FFF_FFFF
+    }
 }

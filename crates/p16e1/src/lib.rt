@@ -9,6 +9,7 @@ mod quadrant;
 
 pub use functions::Answered;
 pub use functions::answer;
+pub use kernel::square_root;
 pub use math::acos_pi::acos_pi;
 pub use math::asin_pi::asin_pi;
 pub use math::atan_pi::atan_pi;

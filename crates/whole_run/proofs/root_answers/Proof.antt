@@ -58,8 +58,8 @@ mul-rust c = search needs
 add-rust : tie.Need-add-rust Inv-loop μ-loop
 add-rust c = search needs
 
-isqrt-requires : tie.Need-isqrt-requires Inv-loop μ-loop
-isqrt-requires c κs = search needs
+square-root-requires : tie.Need-square-root-requires Inv-loop μ-loop
+square-root-requires c κs = search needs
 
 root-requires : tie.Need-root-requires Inv-loop μ-loop
 root-requires c κs = search needs
@@ -107,7 +107,7 @@ root-answers-spec =
     cast-rust-2
     mul-rust
     add-rust
-    isqrt-requires
+    square-root-requires
     root-requires
     wrapping-add-u64-requires
     wrapping-add-u64-requires-2

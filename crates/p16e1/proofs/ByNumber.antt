@@ -1,0 +1,54 @@
+-- The function by number: the numbers that are known, and the one answer that a known function has.
+use Prim.Native.Nat.{ℕ, _≤_, _<_}
+use mathlib.Core.Path.{_≡_, refl}
+use mathlib.Core.Bool.{true, false, cond}
+use native.Mathlib.Omega.{arith}
+use borrow.Author.Tests.{le-leb, lt-leb}
+use lib.Dec.{eqb, lit≤}
+use Rattle.posit.proofs.Exists.{answered}
+use Rattle.p16e1.specs.Rows.{Row, names, rounds, Meets}
+use Rattle.p16e1.specs.Functions.{known, rowOf, answerTo, answerOf}
+use Rattle.p16e1.specs.Exp as Exp
+use Rattle.p16e1.specs.Exp2 as Exp2
+use Rattle.p16e1.specs.Ln as Ln
+use Rattle.p16e1.specs.Log2 as Log2
+use Rattle.p16e1.specs.SinPi as SinPi
+use Rattle.p16e1.specs.CosPi as CosPi
+use Rattle.p16e1.specs.TanPi as TanPi
+use Rattle.p16e1.specs.AtanPi as AtanPi
+use Rattle.p16e1.specs.AsinPi as AsinPi
+use Rattle.p16e1.specs.AcosPi as AcosPi
+use Rattle.p16e1.proofs.OneAnswer.{one}
+use Rattle.p16e1.proofs.Straight.{StraightRow, either, exp-row, exp2-row, ln-row, log2-row, sin-pi-row, cos-pi-row, tan-pi-row, atan-pi-row, asin-pi-row, acos-pi-row}
+
+pub known-within : (f : ℕ) → 1 ≤ f → f ≤ 10 → known f ≡ true
+known-within f l h = rw (le-leb 1 f l, le-leb f 10 h)
+
+pub unknown-below : (f : ℕ) → f < 1 → known f ≡ false
+unknown-below f l = rw (lt-leb 1 f l)
+
+pub unknown-above : (f : ℕ) → 10 < f → known f ≡ false
+unknown-above f h = rw (le-leb 1 f (omega arith), lt-leb f 10 h)
+
+-- each row by its number
+row-straight : (f p : ℕ) → StraightRow (rowOf f p)
+unfolding rowOf
+row-straight f p =
+    let from-9 = cond (eqb f 9) (AsinPi.row p) (AcosPi.row p) in
+    let from-8 = cond (eqb f 8) (AtanPi.row p) from-9 in
+    let from-7 = cond (eqb f 7) (TanPi.row p) from-8 in
+    let from-6 = cond (eqb f 6) (CosPi.row p) from-7 in
+    let from-5 = cond (eqb f 5) (SinPi.row p) from-6 in
+    let from-4 = cond (eqb f 4) (Log2.row p) from-5 in
+    let from-3 = cond (eqb f 3) (Ln.row p) from-4 in
+    let from-2 = cond (eqb f 2) (Exp2.row p) from-3 in
+    either (eqb f 1) (Exp.row p) from-2 (exp-row p) (either (eqb f 2) (Exp2.row p) from-3 (exp2-row p) (either (eqb f 3) (Ln.row p) from-4 (ln-row p) (either (eqb f 4) (Log2.row p) from-5 (log2-row p) (either (eqb f 5) (SinPi.row p) from-6 (sin-pi-row p) (either (eqb f 6) (CosPi.row p) from-7 (cos-pi-row p) (either (eqb f 7) (TanPi.row p) from-8 (tan-pi-row p) (either (eqb f 8) (AtanPi.row p) from-9 (atan-pi-row p) (either (eqb f 9) (AsinPi.row p) (AcosPi.row p) (asin-pi-row p) (acos-pi-row p)))))))))
+
+-- the computed answer is the row's
+meets-answer : (w : Row) → Meets w (answerTo w)
+meets-answer (names u) = refl
+meets-answer (rounds x) = answered 1 16 (lit≤ tt) x
+
+pub answer-is : (f p r : ℕ) → Meets (rowOf f p) r → r ≡ answerOf f p
+unfolding answerOf
+answer-is f p r m = one (rowOf f p) (row-straight f p) r (answerTo (rowOf f p)) m (meets-answer (rowOf f p))
