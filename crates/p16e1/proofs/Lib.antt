@@ -10,4 +10,5 @@ pub mod Sweeps
 pub mod Straight
 pub mod OneAnswer
 pub mod ByNumber
+pub mod CheckedPoints
 pub mod Rows

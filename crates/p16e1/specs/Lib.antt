@@ -15,3 +15,4 @@ pub mod Root
 pub mod AsinPi
 pub mod AcosPi
 pub mod Functions
+pub mod Points
