@@ -41,8 +41,9 @@ pub fn batch(
     }
     let n = fill::smaller(limit, input.len() - start);
     let nars = fill::fill(function, input, output, start, n);
+    let next = start + n;
     Batched {
-        next: start + n,
+        next,
         nars,
         refusal: Refusal::None,
     }

@@ -4,11 +4,11 @@ use mathlib.Core.Path.{_≡_, refl, subst⁻¹}
 use mathlib.Core.List.{List·Memᴰ·not-nil}
 use native.Mathlib.Omega.{arith}
 use Rattle.posit.specs.Number.{number}
-use Rattle.p16e1.specs.Rows.{Meets}
-use Rattle.p16e1.specs.Exp2.{row}
+use Rattle.rows.specs.Rows.{Meets}
+use Rattle.exponential.specs.Exp2.{row}
 use Rattle.exp2_sweep.specs.Power.{Picked}
 use Rattle.exp2_sweep.proofs.Agreed.{Agreed}
-use Rattle.p16e1.proofs.OneAnswer.{exp2-one}
+use Rattle.exponential.proofs.OneAnswer.{exp2-one}
 use Rattle.exp2_sweep.proofs.OnePicked.{one-picked}
 use Rattle.exp2_sweep.proofs.Whole.{agreed}
 use Rattle.exp2_list.specs.Differing.{Listed, Compared, Exp2List}

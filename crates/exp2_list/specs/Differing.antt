@@ -4,8 +4,8 @@ use Prim.Native.Nat.{ℕ, suc, _^_, _≤_, _<_}
 use mathlib.Core.Path.{_≡_}
 use mathlib.Core.List.{List, [], List·Memᴰ}
 use Rattle.posit.specs.Number.{number}
-use Rattle.p16e1.specs.Rows.{Meets}
-use Rattle.p16e1.specs.Exp2.{row}
+use Rattle.rows.specs.Rows.{Meets}
+use Rattle.exponential.specs.Exp2.{row}
 use Rattle.exp2_sweep.specs.Power.{Picked}
 
 -- a pattern, exp2's answer to it, and the picked posit

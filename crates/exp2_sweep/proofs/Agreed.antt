@@ -7,9 +7,9 @@ use lib.Ieee.Fits.{and-l, and-r}
 use lib.IntN.{ℤ, pos, negsuc}
 use Rattle.posit.specs.Number.{Number, nar, real}
 use Rattle.posit.specs.Rounding.{Cut, nought, plus, minus, dividing}
-use Rattle.p16e1.specs.Floor.{floor, modulo}
-use Rattle.p16e1.specs.Rows.{Row, names, rounds, Meets}
-use Rattle.p16e1.specs.Exp2.{poly}
+use Rattle.rows.specs.Floor.{floor, modulo}
+use Rattle.rows.specs.Rows.{Row, names, rounds, Meets}
+use Rattle.exponential.specs.Exp2.{poly}
 use Rattle.exp2_sweep.specs.Power.{powerCut, Picked}
 use Rattle.exp2_sweep.proofs.Stands.{stands, exponent, power-stands}
 use Rattle.exp2_sweep.proofs.Picks.{Test, Tells, picks, picks-rounded}

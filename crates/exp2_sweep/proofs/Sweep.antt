@@ -7,7 +7,7 @@ use mathlib.Core.Logic.{⊎-elim}
 use mathlib.Core.Bool.{Bool, true, false}
 use lib.Dec.{T, eqb, eqb→eq}
 use Rattle.posit.specs.Number.{number}
-use Rattle.p16e1.specs.Exp2.{row}
+use Rattle.exponential.specs.Exp2.{row}
 use Rattle.exp2_sweep.proofs.Agreed.{Agreed, agrees, agrees-agreed}
 
 -- a test f passes at the n numbers from i on

@@ -4,7 +4,7 @@ use native.Mathlib.Omega.{arith}
 use native.Mathlib.Decide.{decLt}
 use mathlib.Core.Path.{_≡_}
 use Rattle.posit.specs.Number.{number}
-use Rattle.p16e1.specs.Exp2.{row}
+use Rattle.exponential.specs.Exp2.{row}
 use Rattle.exp2_sweep.proofs.Agreed.{Agreed}
 use Rattle.exp2_sweep.proofs.Sweep.{Part}
 use Rattle.exp2_sweep.proofs.Sweeps.W0 as W0

@@ -6,20 +6,23 @@ use native.Mathlib.Omega.{arith}
 use borrow.Author.Tests.{le-leb, lt-leb}
 use lib.Dec.{eqb, lit≤}
 use Rattle.posit.proofs.Exists.{answered}
-use Rattle.p16e1.specs.Rows.{Row, names, rounds, Meets}
+use Rattle.rows.specs.Rows.{Row, names, rounds, Meets}
 use Rattle.p16e1.specs.Functions.{known, rowOf, answerTo, answerOf}
-use Rattle.p16e1.specs.Exp as Exp
-use Rattle.p16e1.specs.Exp2 as Exp2
-use Rattle.p16e1.specs.Ln as Ln
-use Rattle.p16e1.specs.Log2 as Log2
-use Rattle.p16e1.specs.SinPi as SinPi
-use Rattle.p16e1.specs.CosPi as CosPi
-use Rattle.p16e1.specs.TanPi as TanPi
-use Rattle.p16e1.specs.AtanPi as AtanPi
-use Rattle.p16e1.specs.AsinPi as AsinPi
-use Rattle.p16e1.specs.AcosPi as AcosPi
-use Rattle.p16e1.proofs.OneAnswer.{one}
-use Rattle.p16e1.proofs.Straight.{StraightRow, either, exp-row, exp2-row, ln-row, log2-row, sin-pi-row, cos-pi-row, tan-pi-row, atan-pi-row, asin-pi-row, acos-pi-row}
+use Rattle.exponential.specs.Exp as Exp
+use Rattle.exponential.specs.Exp2 as Exp2
+use Rattle.logarithm.specs.Ln as Ln
+use Rattle.logarithm.specs.Log2 as Log2
+use Rattle.circular.specs.SinPi as SinPi
+use Rattle.circular.specs.CosPi as CosPi
+use Rattle.circular.specs.TanPi as TanPi
+use Rattle.arc.specs.AtanPi as AtanPi
+use Rattle.arc.specs.AsinPi as AsinPi
+use Rattle.arc.specs.AcosPi as AcosPi
+use Rattle.rows.proofs.Straight.{StraightRow, either, one}
+use Rattle.exponential.proofs.OneAnswer.{exp-row, exp2-row}
+use Rattle.logarithm.proofs.OneAnswer.{ln-row, log2-row}
+use Rattle.circular.proofs.OneAnswer.{sin-pi-row, cos-pi-row, tan-pi-row}
+use Rattle.arc.proofs.OneAnswer.{atan-pi-row, asin-pi-row, acos-pi-row}
 
 pub known-within : (f : ℕ) → 1 ≤ f → f ≤ 10 → known f ≡ true
 known-within f l h = rw (le-leb 1 f l, le-leb f 10 h)

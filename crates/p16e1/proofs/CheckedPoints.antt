@@ -8,19 +8,19 @@ use Rattle.posit.specs.Number.{run, magnitude, opposite, number}
 use Rattle.posit.specs.Rounding.{dyadic, Rounds}
 use Rattle.posit.specs.Answer.{descend, answer}
 use Rattle.posit.proofs.Exists.{answered}
-use Rattle.p16e1.specs.Rows.{Meets}
+use Rattle.rows.specs.Rows.{Meets}
 use Rattle.p16e1.specs.Functions.{rowOf, answerTo}
-use Rattle.p16e1.specs.Ends.{ends}
-use Rattle.p16e1.specs.Leading as Leading
-use Rattle.p16e1.specs.Root.{root}
-use Rattle.p16e1.specs.Exp as Exp
-use Rattle.p16e1.specs.Exp2 as Exp2
-use Rattle.p16e1.specs.Ln as Ln
-use Rattle.p16e1.specs.Log2 as Log2
-use Rattle.p16e1.specs.SinPi as SinPi
-use Rattle.p16e1.specs.CosPi as CosPi
-use Rattle.p16e1.specs.TanPi as TanPi
-use Rattle.p16e1.specs.AcosPi as AcosPi
+use Rattle.exponential.specs.Ends.{ends}
+use Rattle.logarithm.specs.Leading as Leading
+use Rattle.arc.specs.Root.{root}
+use Rattle.exponential.specs.Exp as Exp
+use Rattle.exponential.specs.Exp2 as Exp2
+use Rattle.logarithm.specs.Ln as Ln
+use Rattle.logarithm.specs.Log2 as Log2
+use Rattle.circular.specs.SinPi as SinPi
+use Rattle.circular.specs.CosPi as CosPi
+use Rattle.circular.specs.TanPi as TanPi
+use Rattle.arc.specs.AcosPi as AcosPi
 use Rattle.p16e1.specs.Points.{Every, table}
 use Rattle.p16e1.proofs.ByNumber.{meets-answer}
 

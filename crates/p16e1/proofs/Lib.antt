@@ -1,14 +1,2 @@
-pub mod Products
-pub mod Whole
-pub mod Sizes
-pub mod Signs
-pub mod Leading
-pub mod Arcs
-pub mod Roots
-pub mod Sweep
-pub mod Sweeps
-pub mod Straight
-pub mod OneAnswer
 pub mod ByNumber
 pub mod CheckedPoints
-pub mod Rows

@@ -4,17 +4,17 @@ use mathlib.Core.Path.{_≡_}
 use mathlib.Core.Bool.{Bool, true, false, cond}
 use lib.Dec.{eqb}
 use Rattle.posit.specs.Answer as Rounding
-use Rattle.p16e1.specs.Rows.{Row, names, rounds, Meets, within}
-use Rattle.p16e1.specs.Exp as Exp
-use Rattle.p16e1.specs.Exp2 as Exp2
-use Rattle.p16e1.specs.Ln as Ln
-use Rattle.p16e1.specs.Log2 as Log2
-use Rattle.p16e1.specs.SinPi as SinPi
-use Rattle.p16e1.specs.CosPi as CosPi
-use Rattle.p16e1.specs.TanPi as TanPi
-use Rattle.p16e1.specs.AtanPi as AtanPi
-use Rattle.p16e1.specs.AsinPi as AsinPi
-use Rattle.p16e1.specs.AcosPi as AcosPi
+use Rattle.rows.specs.Rows.{Row, names, rounds, Meets, within}
+use Rattle.exponential.specs.Exp as Exp
+use Rattle.exponential.specs.Exp2 as Exp2
+use Rattle.logarithm.specs.Ln as Ln
+use Rattle.logarithm.specs.Log2 as Log2
+use Rattle.circular.specs.SinPi as SinPi
+use Rattle.circular.specs.CosPi as CosPi
+use Rattle.circular.specs.TanPi as TanPi
+use Rattle.arc.specs.AtanPi as AtanPi
+use Rattle.arc.specs.AsinPi as AsinPi
+use Rattle.arc.specs.AcosPi as AcosPi
 use Rattle.p16e1.specs.declared.functions.Answered.{Answered}
 use Rattle.p16e1.specs.declared.functions.Answered.the-variants.{Pattern, Unknown}
 

@@ -5,7 +5,7 @@ use mathlib.Core.List.{List, [], _∷_}
 use lib.IntN.{ℤ, pos, negsuc}
 use Rattle.posit.specs.Number.{real, number}
 use Rattle.posit.specs.Rounding.{dyadic, Rounds}
-use Rattle.p16e1.specs.Rows.{Meets}
+use Rattle.rows.specs.Rows.{Meets}
 use Rattle.p16e1.specs.Functions.{rowOf}
 
 pub data Point : Type 0 where

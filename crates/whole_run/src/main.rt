@@ -107,7 +107,7 @@ fn root_answers(want: &[u8]) -> Tally {
         let low = number(want[at], want[at + 1]);
         let high = number(want[at + 2], want[at + 3]);
         let rust = (low as u64) + 65536 * (high as u64);
-        let here = p16e1::square_root((j as u64) << 42);
+        let here = arc::square_root((j as u64) << 42);
         if here != rust {
             if differ < 5 {
                 print::root(j as u64, rust, here);

@@ -1,7 +1,7 @@
 -- Part 12 of the patterns, by computation alone.
 use Rattle.posit.specs.Number.{magnitude, number, opposite, run}
-use Rattle.p16e1.specs.Ends.{ends}
-use Rattle.p16e1.specs.Exp2.{poly}
+use Rattle.exponential.specs.Ends.{ends}
+use Rattle.exponential.specs.Exp2.{poly}
 use Rattle.exp2_sweep.proofs.Sweep.{Part, part}
 
 pub swept : Part 12

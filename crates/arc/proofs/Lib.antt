@@ -1,0 +1,4 @@
+pub mod Arcs
+pub mod Roots
+pub mod Rows
+pub mod OneAnswer

@@ -1,0 +1,3 @@
+pub mod AcosPi
+pub mod AsinPi
+pub mod AtanPi

@@ -1,0 +1,4 @@
+pub mod AtanPi
+pub mod Root
+pub mod AsinPi
+pub mod AcosPi

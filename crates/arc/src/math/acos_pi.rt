@@ -1,0 +1,54 @@
+// The angle, in half-turns, whose cosine is x: row 10 of document 01.
+ghost use mathlib.Core.Path.{_≡_};
+ghost use Prim.Native.Nat.{_*_, _^_, _≤_, _<_};
+ghost use Rattle.posit.specs.Number.{magnitude, size};
+ghost use Rattle.rows.specs.Rows.{Meets};
+ghost use Rattle.arc.specs.AcosPi.{poly, arc, row};
+
+pub fn acos_pi(p: u16) -> u16
+    ensures { λ r. ⌜ Meets (row p) r ⌝ }
+{
+    if 0x4000 < p {
+        if p < 0xC000 {
+            return 0x8000; // x is past 1 or -1, or NaR
+        }
+    }
+    if p < 165 {
+        return 0x3000; // so near to zero that the answer is a quarter turn
+    }
+    if 65307 < p {
+        return 0x3000;
+    }
+    posit::round(angle(p), -30)
+}
+
+// The angle in units of 2^-30; from 1/2 on, and from -1/2 down, by way of the square root of 1 - |x|.
+fn angle(p: u16) -> u64
+    requires { ⌜ (165 ≤ p) × (p ≤ 65307) × (0x4000 < p → 0xC000 ≤ p) ⌝ }
+    ensures { λ r. ⌜ r ≡ arc p (magnitude 1 16 (size 16 p)) ⌝ }
+{
+    let x = posit::units(posit::signed(0x8000 < p, p));
+    if p < 0x3000 {
+        return acos_poly(x);
+    }
+    if p < 0x4001 {
+        return 0x4000_0000 - 2 * acos_poly(crate::kernel::isqrt((0x1000_0000 - x) << 27));
+    }
+    if 53248 < p {
+        return 0x4000_0000 - acos_poly(x);
+    }
+    2 * acos_poly(crate::kernel::isqrt((0x1000_0000 - x) << 27))
+}
+
+fn acos_poly(f: u64) -> u64
+    requires { ⌜ f ≤ 2 ^ 27 ⌝ }
+    ensures { λ r. ⌜ r ≡ poly f ⌝ }
+    ensures { λ r. ⌜ r ≤ 2 ^ 29 ⌝ }
+{
+    let fsq = (f * f) >> 28;
+    let a = 13_696 + ((fsq * 7_955) >> 27);
+    let b = 100_510 + ((fsq * a) >> 26);
+    let c = 1_780_047 + ((fsq * b) >> 25);
+    let d = 42_722_829 + ((fsq * c) >> 26);
+    0x2000_0000 - ((f * d) >> 25)
+}

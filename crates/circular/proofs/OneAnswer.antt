@@ -1,0 +1,84 @@
+-- Any two results that a function's contract allows are equal: each row has one answer.
+use Prim.Native.Nat.{ℕ, _+_, _-_, _*_, _%_, _^_}
+use mathlib.Core.Path.{_≡_}
+use mathlib.Core.Bool.{Bool, cond}
+use lib.Dec.{eqb, ltb, leb}
+use lib.IntN.{pos, natAbs}
+use Rattle.posit.specs.Number.{Number, nar, real, number, size}
+use Rattle.posit.specs.Rounding.{over}
+use Rattle.rows.specs.Rows.{Row, names, rounds, Meets, within, opposed}
+use Rattle.rows.proofs.Straight.{StraightRow, either, opposed-straight, by-sign-straight, over-straight, one}
+use Rattle.circular.specs.Quadrants.{quadrant, rest, odd, reflected}
+use Rattle.circular.specs.SinPi as SinPi
+use Rattle.circular.specs.CosPi as CosPi
+use Rattle.circular.specs.TanPi as TanPi
+
+quadrant-straight : (b : Bool) (u : Row) → StraightRow u → StraightRow (cond b (opposed u) u)
+quadrant-straight b u s = either b (opposed u) u (opposed-straight u s) s
+
+-- the answer in a quadrant, by a rest that is 0 or by the kernel
+in-quadrant : (r u k q : ℕ) → StraightRow (cond (eqb r 0) (names u) (rounds (over (pos k) q)))
+in-quadrant r u k q = either (eqb r 0) (names u) (rounds (over (pos k) q)) tt (over-straight (pos k) q)
+
+sine-straight : (k : ℕ) → StraightRow (SinPi.sine k)
+unfolding SinPi.sine SinPi.unsigned
+sine-straight k =
+    let q = quadrant k in
+    let r = rest k in
+    quadrant-straight (leb 2 q) (SinPi.unsigned q r) (in-quadrant r (cond (odd q) 0x4000 0) (SinPi.poly (reflected q r)) 28)
+
+sin-straight : (x : Number) → StraightRow (SinPi.otherwise x)
+sin-straight nar = tt
+sin-straight (real q) = by-sign-straight SinPi.sine sine-straight q
+
+pub sin-pi-row : (p : ℕ) → StraightRow (SinPi.row p)
+unfolding SinPi.row
+sin-pi-row p = either (within 31744 0x7fff (size 16 p)) (names 0) (SinPi.otherwise (number 1 16 p)) tt (sin-straight (number 1 16 p))
+
+cosine-straight : (k : ℕ) → StraightRow (CosPi.cosine k)
+unfolding CosPi.cosine CosPi.unsigned
+cosine-straight k =
+    let q = quadrant k in
+    let r = rest k in
+    quadrant-straight (leb 2 ((q + 1) % 4)) (CosPi.unsigned q r) (in-quadrant r (cond (odd q) 0 0x4000) (CosPi.poly (reflected q r)) 25)
+
+cos-straight : (x : Number) → StraightRow (CosPi.otherwise x)
+cos-straight nar = tt
+cos-straight (real q) = cosine-straight (natAbs q)
+
+pub cos-pi-row : (p : ℕ) → StraightRow (CosPi.row p)
+unfolding CosPi.row
+cos-pi-row p = cos-straight (number 1 16 p)
+
+remainder-straight : (r : ℕ) → StraightRow (TanPi.remainder r)
+unfolding TanPi.remainder
+remainder-straight r =
+    let below = rounds (over (pos (TanPi.poly r)) 28) in
+    let above = rounds (over (pos (TanPi.poly (2 ^ 28 - r))) 28) in
+    let last = cond (ltb r (2 ^ 27)) below (opposed above) in
+    let fourth = cond (eqb r (3 * 2 ^ 26)) (names 0xC000) last in
+    let third = cond (eqb r (2 ^ 26)) (names 0x4000) fourth in
+    let second = cond (eqb r (2 ^ 27)) (names 0x8000) third in
+    either (eqb r 0) (names 0) second tt
+    (either (eqb r (2 ^ 27)) (names 0x8000) third tt
+    (either (eqb r (2 ^ 26)) (names 0x4000) fourth tt
+    (either (eqb r (3 * 2 ^ 26)) (names 0xC000) last tt
+    (either (ltb r (2 ^ 27)) below (opposed above) (over-straight (pos (TanPi.poly r)) 28)
+    (opposed-straight above (over-straight (pos (TanPi.poly (2 ^ 28 - r))) 28))))))
+
+tan-straight : (x : Number) → StraightRow (TanPi.otherwise x)
+tan-straight nar = tt
+tan-straight (real q) = by-sign-straight (λ k. TanPi.remainder (k % 2 ^ 28)) (λ k. remainder-straight (k % 2 ^ 28)) q
+
+pub tan-pi-row : (p : ℕ) → StraightRow (TanPi.row p)
+unfolding TanPi.row
+tan-pi-row p = either (within 31744 0x7fff (size 16 p)) (names 0) (TanPi.otherwise (number 1 16 p)) tt (tan-straight (number 1 16 p))
+
+pub sin-pi-one : (p r s : ℕ) → Meets (SinPi.row p) r → Meets (SinPi.row p) s → r ≡ s
+sin-pi-one p = one (SinPi.row p) (sin-pi-row p)
+
+pub cos-pi-one : (p r s : ℕ) → Meets (CosPi.row p) r → Meets (CosPi.row p) s → r ≡ s
+cos-pi-one p = one (CosPi.row p) (cos-pi-row p)
+
+pub tan-pi-one : (p r s : ℕ) → Meets (TanPi.row p) r → Meets (TanPi.row p) s → r ≡ s
+tan-pi-one p = one (TanPi.row p) (tan-pi-row p)

@@ -1,0 +1,42 @@
+-- What rows 5 and 7 have in common: 0 for the magnitudes from 31744 up, which are whole numbers, and else the sign of x put
+-- back on the answer to its magnitude.
+use Prim.Native.Nat.{ℕ, _≤_, _<_}
+use mathlib.Core.Path.{_≡_}
+use mathlib.Core.Bool.{cond}
+use native.Mathlib.Omega.{arith}
+use borrow.Author.Tests.{le-leb, lt-leb}
+use lib.Dec.{ltb}
+use lib.IntN.{ℤ}
+use Rattle.posit.specs.Number.{Number, nar, real, number, magnitude, opposite, size}
+use Rattle.posit.proofs.Patterns.{number-zero, number-nar}
+use Rattle.rows.specs.Rows.{Row, names, Meets, within, bySign}
+use Rattle.rows.proofs.Signs.{number-meets}
+use Rattle.rows.proofs.Sizes.{size-zero, size-some}
+
+-- a row that has its whole numbers apart
+abbrev pub whole-apart : (Number → Row) → ℕ → Row
+whole-apart other p = cond (within 31744 0x7fff (size 16 p)) (names 0) (other (number 1 16 p))
+
+-- what the row says of the other numbers is f, by the magnitude
+pub record Odd (other : Number → Row) (f : ℕ → Row) : Type 0 where
+  pub at-nar : other nar ≡ names 0x8000
+  pub at-zero : f 0 ≡ names 0
+  pub at-real : (q : ℤ) → other (real q) ≡ bySign f q
+
+module _ {other : Number → Row} {f : ℕ → Row} (odd : Odd other f) (p : ℕ) where
+  pub nar-itself : p ≡ 0x8000 → Meets (whole-apart other p) 0x8000
+  nar-itself e = rw (e, number-nar 1 16, odd .at-nar)
+
+  module _ (h : p < 0x10000) (s : ℕ) (sized : s ≡ size 16 p) where
+    pub zero-itself : s ≡ 0 → Meets (whole-apart other p) 0
+    zero-itself e = rw (size-zero p h (omega arith), number-zero 1 16, odd .at-real, odd .at-zero)
+
+    module _ (not-nar : p ≡ 0x8000 → ⊥) where
+      pub whole-zero : 31743 < s → Meets (whole-apart other p) 0
+      whole-zero k = let z = size-some p h not-nar (λ e. omega arith) in rw (le-leb 31744 (size 16 p) (omega arith), le-leb (size 16 p) 0x7fff (omega arith))
+
+      pub sign-back : s ≤ 31743 → (s ≡ 0 → ⊥) → (x u r : ℕ) → x ≡ magnitude 1 16 s → Meets (f x) u → r ≡ cond (ltb 0x8000 p) (opposite 16 u) u → Meets (whole-apart other p) r
+      sign-back k some x u r units meets signed =
+          let z = size-some p h not-nar (λ e. some (omega arith)) in
+          let meets-here : Meets (f (magnitude 1 16 (size 16 p))) u = rw (units, sized) at meets in
+          rw (signed, lt-leb 31744 (size 16 p) (omega arith)) (number-meets p other f (odd .at-real) (z .0) h not-nar u meets-here)

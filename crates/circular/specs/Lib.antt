@@ -1,0 +1,4 @@
+pub mod Quadrants
+pub mod SinPi
+pub mod CosPi
+pub mod TanPi

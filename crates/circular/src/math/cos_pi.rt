@@ -1,0 +1,60 @@
+// The cosine of x half-turns, row 6 of document 01.
+ghost use mathlib.Core.Path.{_≡_};
+ghost use Prim.Native.Nat.{_*_, _^_, _≤_, _<_};
+ghost use Rattle.rows.specs.Rows.{Meets};
+ghost use Rattle.circular.specs.CosPi.{poly, series, unsigned, cosine, row};
+
+pub fn cos_pi(p: u16) -> u16
+    ensures { λ r. ⌜ Meets (row p) r ⌝ }
+{
+    if p == 0x8000 {
+        return 0x8000;
+    }
+    let size = posit::signed(0x8000 < p, p);
+    if size == 0 {
+        return 0x4000;
+    }
+    cosine_of(posit::units(size))
+}
+
+// The cosine of x / 2^28 half-turns.
+fn cosine_of(x: u64) -> u16
+    ensures { λ r. ⌜ Meets (cosine x) r ⌝ }
+{
+    let d = crate::quadrant::reduce(x);
+    let q = d.quadrant;
+    posit::signed(2 <= (q + 1) % 4, unsigned_cosine(q, d.rest))
+}
+
+// The magnitude of the cosine in the quadrant q, from the rest r.
+fn unsigned_cosine(q: u64, r: u64) -> u16
+    requires { ⌜ (q < 4) × (r < 2 ^ 27) ⌝ }
+    ensures { λ u. ⌜ Meets (unsigned q r) u ⌝ }
+{
+    if r == 0 {
+        return if q % 2 == 1 { 0 } else { 0x4000 };
+    }
+    posit::round(cos_poly(crate::quadrant::reflect(q, r)), -25)
+}
+
+fn cos_poly(f: u64) -> u64
+    requires { ⌜ f < 2 ^ 27 ⌝ }
+    ensures { λ r. ⌜ r ≡ poly f ⌝ }
+{
+    if f < 0x000E_6001 {
+        0x01FF_FFFF
+    } else {
+        cos_series(f >> 11)
+    }
+}
+
+fn cos_series(fs: u64) -> u64
+    requires { ⌜ fs < 2 ^ 16 ⌝ }
+    ensures { λ r. ⌜ r ≡ series fs ⌝ }
+{
+    let fsq = (fs * fs) >> 8;
+    let a = 349_194 - ((fsq * 28_875) >> 25);
+    let b = 4_255_560 - ((fsq * a) >> 24);
+    let c = 20_698_014 - ((fsq * b) >> 24);
+    33_554_428 - ((fsq * c) >> 23)
+}

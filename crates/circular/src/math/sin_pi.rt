@@ -1,0 +1,65 @@
+// The sine of x half-turns, row 5 of document 01.
+ghost use mathlib.Core.Path.{_≡_};
+ghost use Prim.Native.Nat.{_*_, _^_, _≤_, _<_};
+ghost use Rattle.rows.specs.Rows.{Meets};
+ghost use Rattle.circular.specs.SinPi.{poly, series, unsigned, sine, row};
+
+pub fn sin_pi(p: u16) -> u16
+    ensures { λ r. ⌜ Meets (row p) r ⌝ }
+{
+    if p == 0x8000 {
+        return 0x8000;
+    }
+    let negative = 0x8000 < p;
+    let size = posit::signed(negative, p);
+    if 31743 < size {
+        return 0; // x is a whole number
+    }
+    if size == 0 {
+        return 0;
+    }
+    posit::signed(negative, sine_of(posit::units(size)))
+}
+
+// The sine of x / 2^28 half-turns.
+fn sine_of(x: u64) -> u16
+    ensures { λ r. ⌜ Meets (sine x) r ⌝ }
+{
+    let d = crate::quadrant::reduce(x);
+    let q = d.quadrant;
+    posit::signed(2 <= q, unsigned_sine(q, d.rest))
+}
+
+// The magnitude of the sine in the quadrant q, from the rest r.
+fn unsigned_sine(q: u64, r: u64) -> u16
+    requires { ⌜ (q < 4) × (r < 2 ^ 27) ⌝ }
+    ensures { λ u. ⌜ Meets (unsigned q r) u ⌝ }
+{
+    if r == 0 {
+        return if q % 2 == 1 { 0x4000 } else { 0 };
+    }
+    posit::round(sin_poly(crate::quadrant::reflect(q, r)), -28)
+}
+
+fn sin_poly(f: u64) -> u64
+    requires { ⌜ f < 2 ^ 27 ⌝ }
+    ensures { λ r. ⌜ r ≡ poly f ⌝ }
+{
+    if f < 0x000A_5801 {
+        (f * 102_943) >> 15
+    } else {
+        sin_series(f >> 11)
+    }
+}
+
+fn sin_series(fs: u64) -> u64
+    requires { ⌜ fs < 2 ^ 16 ⌝ }
+    ensures { λ r. ⌜ r ≡ series fs ⌝ }
+{
+    let fsq = (fs * fs) >> 8;
+    let a = (fsq * 650) >> 25;
+    let b = (fsq * (9_813 - a)) >> 23;
+    let c = (fsq * (334_253 - b)) >> 23;
+    let d = (fsq * (5_418_741 - c)) >> 22;
+    (fs * (52_707_180 - d)) >> 13
+}

@@ -1,0 +1,92 @@
+-- What rows 1 and 2 say, case by case, over the four numbers in which they differ; and the floors of their kernels.
+use Prim.Native.Nat.{ℕ, suc, _+_, _*_, _/_, _%_, _^_, _≤_, _<_}
+use mathlib.Core.Path.{_≡_, _∙_, ap, sym, subst}
+use mathlib.Core.Logic.{_⊎_, ⊎-elim}
+use native.Mathlib.Omega.{arith}
+use native.Mathlib.Decide.{decLt}
+use borrow.Author.Tests.{lt-ltb, le-ltb, le-leb, lt-leb}
+use lib.Dec.{ltb}
+use lib.IntN.{ℤ, pos, negsuc, _+ℤ_, _-ℤ_, +ℤ-assoc}
+use lib.Signed.{mag}
+use mir.Syntax.{w32}
+use mir.Val.{toZ, ofZ}
+use mir.Facts.{toZ-ofZ}
+use Rattle.posit.specs.Number.{number, magnitude, size, withSign}
+use Rattle.posit.specs.Rounding.{Known, dyadic, Rounds}
+use Rattle.posit.proofs.Patterns.{number-nar, number-signed}
+use Rattle.rows.specs.Floor.{floor, modulo}
+use Rattle.rows.specs.Rows.{names, rounds, Meets}
+use Rattle.exponential.specs.Ends.{ends, beyond, otherwise}
+use Rattle.rows.proofs.Whole.{Floors, floors, moved-back}
+
+-- the four numbers stand in order around NaR
+pub record Ordered (a b c d : ℕ) : Type 0 where
+  pub first : 0 < a
+  pub second : a ≤ c
+  pub third : c ≤ 0x7fff
+  pub fourth : 0x8001 ≤ d
+  pub fifth : d ≤ b
+
+module _ (a b c d : ℕ) (o : Ordered a b c d) (kernel : ℤ → Known) where
+  pub near-one : (p : ℕ) → (p < a) ⊎ (b < p) → ends a b c d kernel p ≡ names 0x4000
+  unfolding ends
+  near-one p w = ⊎-elim (λ h. rw (lt-ltb p a h)) (λ h. rw (le-ltb p a (omega arith), lt-ltb b p h)) w
+
+  largest-from : (p : ℕ) → c ≤ p → p < 0x8000 → ends a b c d kernel p ≡ names 0x7fff
+  unfolding ends
+  largest-from p l h = rw (le-ltb p a (omega arith), le-ltb b p (omega arith), le-leb c p l, le-leb p 0x7fff (omega arith))
+
+  smallest-to : (p : ℕ) → 0x8000 < p → p ≤ d → ends a b c d kernel p ≡ names 0x0001
+  unfolding ends
+  smallest-to p l h =
+      rw (le-ltb p a (omega arith), le-ltb b p (omega arith), le-leb c p (omega arith), lt-leb p 0x7fff (omega arith), le-leb 0x8001 p (omega arith), le-leb p d h)
+
+  inside : (p : ℕ) → a ≤ p → p ≤ b → (c ≤ p → p < 0x8000 → ⊥) → (0x8000 < p → p ≤ d → ⊥) → ends a b c d kernel p ≡ otherwise kernel (number 1 16 p)
+  unfolding ends
+  inside p l h u v = go (decLt p c) (decLt 0x8000 p)
+    where
+      go : Dec (p < c) → Dec (0x8000 < p) → ends a b c d kernel p ≡ otherwise kernel (number 1 16 p)
+      go (yes q) k = rw (le-ltb p a l, le-ltb b p h, lt-leb c p q, lt-leb 0x8001 p (omega arith))
+      go (no q) (yes k) = rw (le-ltb p a l, le-ltb b p h, le-leb c p (omega arith), lt-leb p 0x7fff (omega arith), le-leb 0x8001 p (omega arith), lt-leb p d (omega (arith, v k)))
+      go (no q) (no k) = rw (le-ltb p a l, le-ltb b p h, le-leb c p (omega arith), lt-leb p 0x7fff (omega (arith, u (omega arith))), lt-leb 0x8001 p (omega arith))
+
+  nar-itself : ends a b c d kernel 0x8000 ≡ names 0x8000
+  nar-itself = inside 0x8000 (omega arith) (omega arith) (λ q r. omega arith) (λ q r. omega arith) ∙ ap (otherwise kernel) (number-nar 1 16)
+
+  -- the largest and the smallest posit, and NaR between them
+  pub past-ends : (p : ℕ) → c ≤ p → p ≤ d → ends a b c d kernel p ≡ names (beyond p)
+  past-ends p l h = go (decLt p 0x8000) (decLt 0x8000 p)
+    where
+      go : Dec (p < 0x8000) → Dec (0x8000 < p) → ends a b c d kernel p ≡ names (beyond p)
+      go (yes q) k = rw (lt-ltb p 0x8000 q) (largest-from p l q)
+      go (no q) (yes k) = rw (le-ltb p 0x8000 (omega arith), lt-ltb 0x8000 p k) (smallest-to p k h)
+      go (no q) (no k) =
+          let e : p ≡ 0x8000 = omega arith in
+          rw (le-ltb p 0x8000 (omega arith), le-ltb 0x8000 p (omega arith)) (ap (ends a b c d kernel) e ∙ nar-itself)
+
+  by-kernel : (p : ℕ) → a ≤ p → p ≤ b → (c ≤ p → d < p) → ends a b c d kernel p ≡ rounds (kernel (withSign (ltb 0x8000 p) (magnitude 1 16 (size 16 p))))
+  by-kernel p l h out =
+      inside p l h (λ q r. let k = out q in omega arith) (λ q r. let k = out (omega arith) in omega arith)
+      ∙ ap (otherwise kernel) (number-signed 1 16 p (omega arith) (λ e. let k = out (omega arith) in omega arith))
+
+  -- the answer is what posit::round gives for the kernel's number, the parts of which were computed as f and e
+  pub kernel-meets : {f g : ℕ} {e n : ℤ} (p x K r : ℕ) → a ≤ p → p ≤ b → (c ≤ p → d < p) → x ≡ magnitude 1 16 (size 16 p) → kernel (withSign (ltb 0x8000 p) x) ≡ dyadic (pos (K + g)) n → f ≡ g → e ≡ n → mag e < 2 ^ 31 → Rounds 1 16 (dyadic (pos (K + f)) (toZ w32 (ofZ w32 e))) r → Meets (ends a b c d kernel p) r
+  kernel-meets {g = g} {n = n} p x K r l h out s k u v fits m =
+      let is : kernel (withSign (ltb 0x8000 p) (magnitude 1 16 (size 16 p))) ≡ dyadic (pos (K + g)) n = ap (λ (y : ℕ). kernel (withSign (ltb 0x8000 p) y)) (sym s) ∙ k in
+      rw (by-kernel p l h out, is) (subst (λ (y : Known). Rounds 1 16 y r) (λ i. dyadic (pos (K + u i)) ((toZ-ofZ {w = w32} (record { sfits = fits }) ∙ v) i)) m)
+
+-- z + 32 * M * m is t: what is rounded, by the floor of floor(z / m) / M and the rest, is known by those of t
+module _ (z : ℤ) (m M t : ℕ) (some : 0 < m) (more : 0 < M) (moved : z +ℤ pos (32 * M * m) ≡ pos t) where
+  once : Floors z (32 * M) m t
+  once = floors z (32 * M) m t some moved
+
+  twice : Floors (floor z m) 32 M (t / m)
+  twice = floors (floor z m) 32 M (t / m) more (once .whole)
+
+  power-moved : (e : ℕ) → floor (floor z m) M -ℤ pos (suc e) ≡ pos (t / m / M) +ℤ negsuc (suc (31 + e))
+  power-moved e =
+      ap (λ (x : ℤ). x -ℤ pos (suc e)) (moved-back (floor (floor z m) M) 32 (t / m / M) (twice .whole))
+      ∙ +ℤ-assoc (pos (t / m / M)) (negsuc 31) (negsuc e)
+
+  pub parts-moved : (K e : ℕ) (poly : ℕ → ℕ) → dyadic (pos (K + poly (modulo (floor z m) M))) (floor (floor z m) M -ℤ pos (suc e)) ≡ dyadic (pos (K + poly (t / m % M))) (pos (t / m / M) +ℤ negsuc (suc (31 + e)))
+  parts-moved K e poly = λ i. dyadic (pos (K + poly (twice .rest i))) (power-moved e i)

@@ -1,0 +1,3 @@
+pub mod Ends
+pub mod Exp
+pub mod Exp2

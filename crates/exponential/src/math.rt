@@ -1,0 +1,2 @@
+pub mod exp;
+pub mod exp2;

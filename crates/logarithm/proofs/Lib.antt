@@ -1,0 +1,5 @@
+pub mod Leading
+pub mod Sweep
+pub mod Sweeps
+pub mod Rows
+pub mod OneAnswer

@@ -1,0 +1,3 @@
+pub mod Leading
+pub mod Ln
+pub mod Log2

@@ -1,0 +1,2 @@
+pub mod ln;
+pub mod log2;

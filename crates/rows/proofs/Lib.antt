@@ -1,0 +1,5 @@
+pub mod Products
+pub mod Whole
+pub mod Sizes
+pub mod Signs
+pub mod Straight

@@ -1,0 +1,38 @@
+-- A row that names its answer, or rounds a number whose cut goes one way, has one answer.
+use Prim.Native.Nat.{ℕ, suc}
+use mathlib.Core.Path.{_≡_, _∙_, sym}
+use mathlib.Core.Bool.{Bool, true, false, cond}
+use lib.Dec.{lit≤}
+use lib.IntN.{ℤ, pos, negsuc, negℤ}
+use Rattle.posit.specs.Rounding.{Known, nought, plus, minus, negated, over}
+use Rattle.posit.proofs.Laws.{Straight, dyadic-straight, one-answer}
+use Rattle.rows.specs.Rows.{Row, names, rounds, Meets, opposed, bySign}
+
+-- the number that a row rounds has one answer
+abbrev pub StraightRow : Row → Type 0
+StraightRow (names u) = Unit {0}
+StraightRow (rounds x) = Straight x
+
+pub either : (b : Bool) (v w : Row) → StraightRow v → StraightRow w → StraightRow (cond b v w)
+either true v w sv sw = sv
+either false v w sv sw = sw
+
+pub negated-straight : (x : Known) → Straight x → Straight (negated x)
+negated-straight nought s = s
+negated-straight (plus c) s = s
+negated-straight (minus c) s = s
+
+pub opposed-straight : (w : Row) → StraightRow w → StraightRow (opposed w)
+opposed-straight (names u) s = tt
+opposed-straight (rounds x) s = negated-straight x s
+
+pub by-sign-straight : (f : ℕ → Row) → ((k : ℕ) → StraightRow (f k)) → (q : ℤ) → StraightRow (bySign f q)
+by-sign-straight f s (pos k) = s k
+by-sign-straight f s (negsuc k) = opposed-straight (f (suc k)) (s (suc k))
+
+pub over-straight : (k : ℤ) (q : ℕ) → Straight (over k q)
+over-straight k q = dyadic-straight k (negℤ (pos q))
+
+pub one : (w : Row) → StraightRow w → (r s : ℕ) → Meets w r → Meets w s → r ≡ s
+one (names u) t r s m n = m ∙ sym n
+one (rounds x) t r s m n = one-answer 1 16 (lit≤ tt) x t r s m n
