@@ -75,15 +75,17 @@ roots-grow r s l = go (decLe r s)
 no-more : (n r s : ℕ) → Root n r → Root n s → r ≤ s
 no-more n r s a b = roots-grow r s (let x = a .least in let y = b .most in omega arith)
 
+-- a number has one root
+pub one-root : (n r s : ℕ) → Root n r → Root n s → r ≡ s
+one-root n r s a b = let x = no-more n r s a b in let y = no-more n s r b a in omega arith
+
 -- what `root` computes is a root, and there is only one
 pub the-root : (n r : ℕ) → n < 2 ^ 56 → Root n r → r ≡ root n
 unfolding root
 the-root n r h a =
     let e : Edge (λ r. leb (r * r) n) (descend (λ r. leb (r * r) n) 28 0) = descends (λ r. leb (r * r) n) 28 0 (le-leb 0 n (omega arith)) (lt-leb (2 ^ 56) n h) in
     let s : Root n (root n) = record { least = leb-true (root n * root n) n (e .inside); most = leb-false ((root n + 1) * (root n + 1)) n (e .outside) } in
-    let x = no-more n r (root n) a s in
-    let y = no-more n (root n) r s a in
-    omega arith
+    one-root n r (root n) a s
 
 -- the root that asin_pi and acos_pi take, for a magnitude m from 1/2 on
 pub root-of-rest : {m x r : ℕ} → x ≡ m → 2 ^ 27 ≤ m → Root ((2 ^ 28 - x) * 2 ^ 27 % 2 ^ 64) r → (r ≡ root ((2 ^ 28 - m) * 2 ^ 27)) × (r ≤ 2 ^ 27)

