@@ -1,7 +1,7 @@
 -- Any two results that a function's contract allows are equal: each row has one answer.
 use Prim.Native.Nat.{ℕ, _+_, _^_}
 use mathlib.Core.Path.{_≡_}
-use mathlib.Core.Bool.{cond, _||_}
+use mathlib.Core.Bool.{_||_}
 use lib.Dec.{ltb}
 use lib.IntN.{ℤ, pos, _-ℤ_, _*ℤ_}
 use Rattle.posit.specs.Number.{Number, nar, real, number}

@@ -1,6 +1,6 @@
 -- What rows 1 and 2 of document 01 answer before the kernel. They differ in four numbers.
 use Prim.Native.Nat.{ℕ}
-use mathlib.Core.Bool.{Bool, true, false, cond, _||_}
+use mathlib.Core.Bool.{cond, _||_}
 use lib.Dec.{ltb}
 use lib.IntN.{ℤ}
 use Rattle.posit.specs.Number.{Number, nar, real, number}

@@ -2,15 +2,14 @@
 use Prim.Native.Nat.{ℕ, zero, suc, _+_, _-_, _%_, _^_, _≤_, _<_, Ordering, Ordering·lt, Ordering·eq, Ordering·gt}
 use mathlib.Core.Path.{_≡_, _∙_, subst, sym, ap, refl}
 use mathlib.Core.Logic.{_⊎_, inl, inr, ⊎-elim}
-use mathlib.Core.Bool.{Bool, true, false, _&&_, _||_}
+use mathlib.Core.Bool.{Bool, true, false, _&&_}
 use native.Mathlib.Omega.{arith}
-use native.Mathlib.Nat.{add-zero, zero-add, pow-suc, eq-or-lt-of-le}
+use native.Mathlib.Nat.{zero-add, pow-suc, eq-or-lt-of-le}
 use native.Mathlib.Decide.{decLe}
 use borrow.Author.Tests.{le-leb, lt-leb, leb-true, eqb-true, eqb-false}
-use lib.Dec.{leb, eqb}
+use lib.Dec.{leb}
 use lib.Pow.{pow-pos, pow-mono}
 use Rattle.posit.specs.Rounding.{Cut, Known, nought, plus, minus, Reached, Enough, Rounded, Rounds, divides, largest}
-use Rattle.posit.specs.Number.{opposite}
 use Rattle.posit.specs.Answer.{passes, reaches, descend, answer}
 use Rattle.posit.proofs.Complement.{opposite-twice}
 

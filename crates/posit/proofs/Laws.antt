@@ -1,13 +1,13 @@
 -- The laws of the rounding rule, sign and zero included: one answer, order, negation, a posit's own number.
-use Prim.Native.Nat.{ℕ, zero, suc, _+_, _-_, _*_, _%_, _^_, _≤_, _<_}
-use mathlib.Core.Path.{_≡_, _∙_, subst, subst⁻¹, sym, ap, refl}
+use Prim.Native.Nat.{ℕ, zero, suc, _+_, _-_, _*_, _%_, _^_, _≤_}
+use mathlib.Core.Path.{_≡_, _∙_, subst, subst⁻¹, sym, ap}
 use native.Mathlib.Omega.{arith}
 use native.Mathlib.Nat.{pow-suc, mod-eq-of-lt}
 use lib.Pow.{pow-pos, low}
-use lib.IntN.{ℤ, pos, negsuc, negℤ}
+use lib.IntN.{ℤ, pos, negsuc}
 use lib.Ieee.{up, down}
-use Rattle.posit.specs.Number.{magnitude, opposite, unit, Number, real, number}
-use Rattle.posit.specs.Rounding.{Cut, ratio, Rounded, Known, nought, plus, minus, Rounds, negated, dyadic, divides, dividing, largest}
+use Rattle.posit.specs.Number.{opposite}
+use Rattle.posit.specs.Rounding.{Cut, Rounded, Known, nought, plus, minus, Rounds, negated, dyadic}
 use Rattle.posit.proofs.Compare.{OneWay, ratio-one-way}
 use Rattle.posit.proofs.Dyadic.{down-some}
 use Rattle.posit.proofs.Complement.{opposite-zero, opposite-is, opposite-twice, opposite-some}

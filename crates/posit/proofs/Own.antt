@@ -6,10 +6,10 @@ use native.Mathlib.Omega.{arith}
 use native.Mathlib.Nat.{zero-mul, lt-of-le-of-lt, mul-assoc, mul-one, mul-comm, eq-or-lt-of-le, pow-suc}
 use native.Mathlib.Decide.{decLt}
 use lib.Pow.{pow-pos, pow-add}
-use lib.IntN.{ℤ, pos, negsuc, negℤ}
+use lib.IntN.{ℤ, pos, negℤ}
 use lib.Ieee.{up, down}
 use Rattle.posit.specs.Number.{magnitude, opposite, unit, nar, real, number}
-use Rattle.posit.specs.Rounding.{Cut, ratio, Rounded, Rounds, Known, dyadic, over, divides, dividing, largest}
+use Rattle.posit.specs.Rounding.{Cut, ratio, Rounded, Rounds, dyadic, over, dividing, largest}
 use Rattle.posit.proofs.Compare.{compare-times, reached, enough}
 use Rattle.posit.proofs.Complement.{opposite-is}
 use Rattle.posit.proofs.Patterns.{number-zero, number-nar, number-plus, number-minus}

@@ -1,13 +1,13 @@
 -- The cases of a pattern: zero, NaR, above zero, below zero.
 use Prim.Native.Nat.{ℕ, _-_, _^_, _<_}
-use mathlib.Core.Path.{_≡_, ap, refl}
+use mathlib.Core.Path.{_≡_, refl}
 use native.Mathlib.Omega.{arith}
 use native.Mathlib.Decide.{decLt}
 use borrow.Author.Tests.{eq-eqb, ne-eqb, lt-ltb, le-ltb}
 use lib.Dec.{ltb}
 use lib.Pow.{pow-pos}
 use lib.IntN.{pos, negℤ}
-use Rattle.posit.specs.Number.{Number, nar, real, number, magnitude, opposite, size, withSign}
+use Rattle.posit.specs.Number.{nar, real, number, magnitude, opposite, size, withSign}
 
 pub number-zero : (es n : ℕ) → number es n 0 ≡ real (pos 0)
 unfolding number

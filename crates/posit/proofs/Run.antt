@@ -1,9 +1,9 @@
 -- The run of a pattern, for every width.
 use Prim.Native.Nat.{ℕ, zero, suc, _+_, _-_, _*_, _/_, _%_, _^_, _≤_, _<_}
-use mathlib.Core.Path.{_≡_, _∙_, subst, subst⁻¹, sym, ap, refl}
+use mathlib.Core.Path.{_≡_, _∙_, subst, sym, ap, refl}
 use mathlib.Core.Bool.{Bool, true, false}
 use native.Mathlib.Omega.{arith}
-use native.Mathlib.Nat.{add-suc, add-zero, add-comm, mod-lt, div-eq-of-lt, mod-eq-of-lt, one-mul, pow-suc, lt-of-lt-of-le, mul-add-mod-self-right}
+use native.Mathlib.Nat.{mod-lt, div-eq-of-lt, mod-eq-of-lt, one-mul, pow-suc, lt-of-lt-of-le, mul-add-mod-self-right}
 use native.Mathlib.Numerals.{one-add}
 use borrow.Author.Tests.{eq-eqb, ne-eqb}
 use lib.Dec.{eqb}

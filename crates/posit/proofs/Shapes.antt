@@ -1,9 +1,9 @@
 -- The numbers of any width grow with the pattern, for any es.
 use Prim.Native.Nat.{ℕ, zero, suc, _+_, _-_, _*_, _/_, _%_, _^_, _≤_, _<_}
 use mathlib.Core.Path.{_≡_, _∙_, subst, subst⁻¹, sym, ap, refl}
-use mathlib.Core.Logic.{_⊎_, inl, inr, ⊎-elim}
+use mathlib.Core.Logic.{_⊎_, ⊎-elim}
 use native.Mathlib.Omega.{arith}
-use native.Mathlib.Nat.{eq-or-lt-of-le, suc-mul, pow-suc, mul-assoc, mul-comm, mul-left-comm, one-mul, zero-mul, add-zero, add-mul, mul-lt-mul-of-pos-right, mul-le-mul, lt-of-lt-of-le, le-trans, le-of-eq, le-refl, mod-lt, lt-of-mul-lt-mul-right, add-le-add, le-add-right, mul-pos}
+use native.Mathlib.Nat.{eq-or-lt-of-le, suc-mul, pow-suc, mul-assoc, mul-comm, mul-left-comm, one-mul, zero-mul, add-mul, mul-lt-mul-of-pos-right, mul-le-mul, lt-of-lt-of-le, le-trans, le-of-eq, le-refl, mod-lt, lt-of-mul-lt-mul-right, le-add-right, mul-pos}
 use lib.Pow.{pow-pos, pow-add, pow-mono, shr-mono, split}
 use Rattle.posit.specs.Number.{magnitude}
 use Rattle.posit.proofs.Run.{onesAt}

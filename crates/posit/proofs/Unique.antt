@@ -1,12 +1,12 @@
 -- A larger number never gets a smaller answer; so a number has at most one answer.
-use Prim.Native.Nat.{ℕ, zero, suc, _+_, _-_, _*_, _%_, _^_, _≤_, _<_, Ordering, Ordering·lt, Ordering·eq, Ordering·gt}
+use Prim.Native.Nat.{ℕ, suc, _+_, _-_, _*_, _^_, _≤_, _<_, Ordering, Ordering·lt, Ordering·eq, Ordering·gt}
 use mathlib.Core.Path.{_≡_, subst, sym, ap, refl}
 use mathlib.Core.Logic.{_⊎_, ⊎-elim}
 use native.Mathlib.Omega.{arith}
 use native.Mathlib.Nat.{eq-or-lt-of-le, le-antisymm, pow-suc}
 use native.Mathlib.Decide.{decLt}
 use lib.Pow.{pow-pos}
-use Rattle.posit.specs.Number.{magnitude, unit}
+use Rattle.posit.specs.Number.{unit}
 use Rattle.posit.specs.Rounding.{Cut, Reached, Enough, Rounded, dividing, divides, largest}
 use Rattle.posit.proofs.Compare.{OneWay}
 use Rattle.posit.proofs.Growth.{larger}

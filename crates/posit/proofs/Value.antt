@@ -1,11 +1,11 @@
 -- The magnitude in a pattern of any width n with any es, from its regime and the bits after it.
-use Prim.Native.Nat.{ℕ, zero, suc, _+_, _-_, _*_, _/_, _%_, _^_, _≤_, _<_}
-use mathlib.Core.Path.{_≡_, _∙_, subst, subst⁻¹, sym, ap, refl}
+use Prim.Native.Nat.{ℕ, suc, _+_, _-_, _*_, _/_, _%_, _^_, _≤_, _<_}
+use mathlib.Core.Path.{_≡_, _∙_, sym, ap}
 use native.Mathlib.Omega.{arith}
-use native.Mathlib.Nat.{add-mul, mul-assoc, mul-comm, mul-left-comm, mul-right-comm, mul-div-cancel, mul-div-mul-right, mul-mod-left, add-zero, add-comm, one-mul, mod-eq-of-lt, mul-le-mul-left, mul-one, le-trans, le-of-eq, add-mul-mod-self-right, add-mul-div-right, mul-add-mod-self-right, mul-add-div-right}
+use native.Mathlib.Nat.{add-mul, mul-assoc, mul-right-comm, mul-div-cancel, mul-div-mul-right, mul-mod-left, add-zero, one-mul, mul-le-mul-left, mul-one, le-trans, le-of-eq, mul-add-mod-self-right, mul-add-div-right}
 use lib.Arith.{mod-mul}
 use lib.Pow.{pow-pos, pow-add, low}
-use Rattle.posit.specs.Number.{magnitude, run, bit, regime, unit}
+use Rattle.posit.specs.Number.{magnitude, run, bit, regime}
 use Rattle.posit.proofs.Run.{zeros, ones, onesAt, zeros-top, ones-top, ones-mod}
 
 unfoldable pub floated : ℕ → ℕ → ℕ

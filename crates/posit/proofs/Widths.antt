@@ -1,17 +1,16 @@
 -- A pattern followed by a 0 keeps its number, so a dividing number lies strictly between its neighbours' numbers.
 -- Numbers of width n count in units of 2 ^ -unit es n; those of width n + 1 in units that are 2 ^ 2 ^ es times finer.
 use Prim.Native.Nat.{ℕ, zero, suc, _+_, _-_, _*_, _/_, _%_, _^_, _≤_, _<_}
-use mathlib.Core.Path.{_≡_, _∙_, subst, subst⁻¹, sym, ap, refl}
+use mathlib.Core.Path.{_≡_, _∙_, subst, sym, ap}
 use mathlib.Core.Logic.{⊎-elim}
 use native.Mathlib.Omega.{arith}
-use native.Mathlib.Nat.{add-mul, mul-assoc, mul-comm, mul-left-comm, mul-right-comm, one-mul, suc-mul, pow-suc, add-comm, add-assoc, add-zero, le-refl, eq-or-lt-of-le, eq-of-mul-eq-mul-right, mul-add-div-right, mul-add-mod-self-right}
-use native.Mathlib.Numerals.{one-add}
+use native.Mathlib.Nat.{add-mul, mul-assoc, mul-comm, mul-left-comm, mul-right-comm, suc-mul, pow-suc, add-comm, le-refl, eq-or-lt-of-le, eq-of-mul-eq-mul-right, mul-add-div-right, mul-add-mod-self-right}
 use lib.Pow.{pow-pos, pow-add}
 use Rattle.posit.specs.Number.{magnitude, unit}
 use Rattle.posit.specs.Rounding.{dividing, largest}
 use Rattle.posit.proofs.Run.{onesAt}
 use Rattle.posit.proofs.Value.{floated}
-use Rattle.posit.proofs.Shapes.{Shape, zs, os, ones-sum, index, shape-magnitude, Found, find}
+use Rattle.posit.proofs.Shapes.{Shape, zs, os, ones-sum, index, shape-magnitude, find}
 use Rattle.posit.proofs.Growth.{larger, last-magnitude, before-magnitude, before}
 use Rattle.posit.proofs.Unique.{doubled}
 

@@ -1,6 +1,6 @@
 // The cosine of x half-turns, row 6 of document 01.
 ghost use mathlib.Core.Path.{_≡_};
-ghost use Prim.Native.Nat.{_*_, _^_, _≤_, _<_};
+ghost use Prim.Native.Nat.{_*_, _^_, _<_};
 ghost use Rattle.rows.specs.Rows.{Meets};
 ghost use Rattle.circular.specs.CosPi.{poly, series, unsigned, cosine, row};
 

@@ -1,6 +1,6 @@
 // The sine of x half-turns, row 5 of document 01.
 ghost use mathlib.Core.Path.{_≡_};
-ghost use Prim.Native.Nat.{_*_, _^_, _≤_, _<_};
+ghost use Prim.Native.Nat.{_*_, _^_, _<_};
 ghost use Rattle.rows.specs.Rows.{Meets};
 ghost use Rattle.circular.specs.SinPi.{poly, series, unsigned, sine, row};
 

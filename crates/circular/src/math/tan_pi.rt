@@ -1,6 +1,6 @@
 // The tangent of x half-turns, row 7 of document 01.
 ghost use mathlib.Core.Path.{_≡_};
-ghost use Prim.Native.Nat.{_*_, _^_, _≤_, _<_};
+ghost use Prim.Native.Nat.{_*_, _^_, _<_};
 ghost use Rattle.rows.specs.Rows.{Meets};
 ghost use Rattle.circular.specs.TanPi.{poly, denominator, numerator, remainder, row};
 

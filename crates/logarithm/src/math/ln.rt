@@ -1,6 +1,6 @@
 // The natural logarithm of x, row 3 of document 01.
 ghost use mathlib.Core.Path.{_≡_};
-ghost use Prim.Native.Nat.{_^_, _≤_, _<_};
+ghost use Prim.Native.Nat.{_^_, _<_};
 ghost use Rattle.rows.specs.Rows.{Meets};
 ghost use Rattle.logarithm.specs.Ln.{poly, row};
 

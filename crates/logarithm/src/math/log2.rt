@@ -1,6 +1,6 @@
 // The logarithm of x to the base 2, row 4 of document 01.
 ghost use mathlib.Core.Path.{_≡_};
-ghost use Prim.Native.Nat.{_^_, _≤_, _<_};
+ghost use Prim.Native.Nat.{_^_, _<_};
 ghost use Rattle.rows.specs.Rows.{Meets};
 ghost use Rattle.logarithm.specs.Log2.{poly, row};
 

@@ -1,6 +1,5 @@
 -- `exponential::ends::saturated` meets its contract: each test is one of the definition's.
 use borrow.Author.Tests.{lt-ltb, le-ltb}
-use native.Mathlib.Omega.{arith}
 use Rattle.exponential.proofs.ends.saturated.Statement.{statement}
 use Rattle.exponential.proofs.ends.saturated.Tie as tie
 

@@ -2,10 +2,9 @@
 use borrow.Author.Needs.{needs}
 use Prim.Native.Nat.{ℕ, _^_, _<_}
 use mathlib.Core.Path.{_≡_, _∙_, subst⁻¹}
-use native.Mathlib.Omega.{arith}
 use lib.IntN.{ℤ, pos, _-ℤ_}
 use mir.Syntax.{w32}
-use mir.Val.{toZ, ofZ, SFits}
+use mir.Val.{toZ, SFits}
 use mir.Facts.{toZ-ofZ, toZ-pos}
 use Rattle.rows.proofs.Whole.{mag-small}
 use Rattle.exponential.proofs.fixed.less.Statement.{statement}

@@ -1,7 +1,6 @@
 -- `exponential::math::exp2` meets its contract: near zero the answer is 1, past the ends it is that of `saturated`, and else the
 -- kernel's.
 use borrow.Author.Needs.{needs}
-use Prim.Native.Nat.{_≤_}
 use mathlib.Core.Logic.{inl, inr, ⊎-elim}
 use native.Mathlib.Omega.{arith}
 use Rattle.exponential.specs.Exp2.{kernel}

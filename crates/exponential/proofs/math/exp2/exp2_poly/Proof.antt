@@ -1,7 +1,7 @@
 -- `exponential::math::exp2::exp2_poly` meets its contract: each product fits, by bounds on the factors.
 use borrow.Author.Needs.{needs}
 use Prim.Native.Nat.{ℕ, _+_, _*_, _/_, _^_, _≤_, _<_}
-use mathlib.Core.Path.{_≡_, refl}
+use mathlib.Core.Path.{refl}
 use native.Mathlib.Omega.{arith}
 use mir.Facts.{fits-of-lt}
 use Rattle.exponential.specs.Exp2.{poly}
