@@ -1,0 +1,11 @@
+pub mod Reading
+pub mod Writing
+pub mod Back
+pub mod Counts
+pub mod Whole
+pub mod Sound
+pub mod Calls
+pub mod Laws
+pub mod Long
+pub mod Room
+pub mod Prefix

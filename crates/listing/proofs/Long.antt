@@ -1,0 +1,35 @@
+-- How long listings get: no listing is longer than 2,072 bytes, and a call writes no more than the output holds.
+use Prim.Native.Nat.{ℕ, _+_, _*_, _≤_, _<_}
+use mathlib.Core.Path.{_≡_, refl}
+use mathlib.Core.Bool.{Bool, true, false, cond}
+use mathlib.Core.List.{List, []}
+use native.Mathlib.Omega.{arith}
+use lib.ListN.{length}
+use Rattle.listing.specs.Sections.{answered, functionsOf, patternsOf, pastPatterns}
+use Rattle.listing.specs.Order.{isNone, mostFunctions, mostPatterns, refusalOf}
+use Rattle.listing.specs.Outcome.{writes}
+use Rattle.listing.proofs.Counts.{length-functions, length-patterns, past-is}
+use Rattle.listing.proofs.Sound.{Sound}
+use Rattle.listing.proofs.Calls.{accepted-of}
+
+abbrev pub longest : ℕ
+longest = 4 + 2 * mostFunctions + 2 * mostPatterns
+
+pub sound-short : (b : List ℕ) → Sound b → pastPatterns b ≤ longest
+sound-short b s =
+    omega (arith, past-is b (length (functionsOf b)) (length (patternsOf b)) refl refl, length-functions b, length-patterns b, s .functions .high, s .patterns .high)
+
+pub long-refused : (b : List ℕ) (outputs : ℕ) → longest < length b → isNone (refusalOf b outputs) ≡ false
+long-refused b outputs h = go (isNone (refusalOf b outputs)) refl
+  where
+    go : (t : Bool) → isNone (refusalOf b outputs) ≡ t → t ≡ false
+    go true e = let a = accepted-of b outputs e in absurd (omega (arith, a .nothing-after, sound-short b (a .sections)))
+    go false e = refl
+
+pub writes-fit : (b : List ℕ) (outputs : ℕ) → length (writes b outputs) ≤ outputs
+unfolding writes
+writes-fit b outputs = go (isNone (refusalOf b outputs)) refl
+  where
+    go : (t : Bool) → isNone (refusalOf b outputs) ≡ t → length (cond t (answered (functionsOf b) (patternsOf b)) []) ≤ outputs
+    go true e = accepted-of b outputs e .room
+    go false e = omega arith

@@ -1,0 +1,163 @@
+-- `listing::answer_listing` meets its contract: each return is one of the cases of `Calls`.
+use borrow.Author.Needs.{needs}
+use Prim.Native.Nat.{ℕ, _+_, _*_, _≤_}
+use mathlib.Core.Path.{_≡_, refl, ap, _∙_, subst}
+use mathlib.Core.Bool.{true}
+use mathlib.Core.List.{List}
+use native.Mathlib.Omega.{arith}
+use native.Mathlib.Nat.{mul-le-mul}
+use denote.Ref.{now}
+use lib.ListN.{length}
+use Rattle.batch.specs.declared.refusal.Refusal.{Refusal}
+use Rattle.batch.specs.declared.refusal.Refusal.the-variants.{Output, After}
+use Rattle.listing.specs.declared.sections.Sections.{Sections}
+use Rattle.listing.specs.Sections.{answered, pastPatterns, functionsOf, patternsOf}
+use Rattle.listing.specs.Order.{isNone, sectionsRefusal, allKnown}
+use Rattle.listing.proofs.Back.{Bytes}
+use Rattle.listing.proofs.Counts.{length-functions, length-patterns, past-is, size-is, functions-are}
+use Rattle.listing.proofs.Whole.{refuses, accepts}
+use Rattle.listing.proofs.Sound.{Sound, sound, sound-of, sections-within}
+use Rattle.listing.proofs.Calls.{Accepted, sections-first, bytes-after, output-last, refused-call, accepted-result, writes-answered}
+use Rattle.listing.proofs.answer_listing.Statement.{statement}
+use Rattle.listing.proofs.answer_listing.Tie as tie
+
+read-sections-requires : tie.Need-read-sections-requires
+read-sections-requires c κs = search needs
+
+number-requires : tie.Need-number-requires
+number-requires c κs = search needs
+
+refused-requires : tie.Need-refused-requires
+refused-requires c κs = search needs
+
+returns : tie.Need-returns
+returns c =
+    let a = c .before .before .before .before .before .before .args in
+    let found = c .before .before .before .read-sections in
+    let number = c .before .before .number in
+    let r = found .result .refusal in
+    let n = refuses r (number .result) (number .ensures) (c .before .if1 .taken) in
+    let e = sections-first (now (a .input)) (length (now (a .output))) r (ap (λ (s : Sections). s .refusal) (found .ensures)) n in
+    let q = refused-call (now (a .input)) (now (a .output)) r e n in
+    (c .refused .ensures ∙ q .0, q .1)
+
+module _ (c : tie.Else1) where
+  abbrev b : List ℕ
+  b = now (c .before .before .before .before .before .args .input)
+
+  abbrev output : List ℕ
+  output = now (c .before .before .before .before .before .args .output)
+
+  abbrev found : Sections
+  found = c .before .before .read-sections .result
+
+  all-sound : Sound b
+  all-sound =
+      let n = c .before .number in
+      let e : found .refusal ≡ sectionsRefusal b = ap (λ (s : Sections). s .refusal) (c .before .before .read-sections .ensures) in
+      sound-of b (subst (λ (r : Refusal). isNone r ≡ true) e (accepts (found .refusal) (n .result) (n .ensures) (c .if1 .left)))
+
+  functions-is : found .functions ≡ length (functionsOf b)
+  functions-is = ap (λ (s : Sections). s .functions) (c .before .before .read-sections .ensures) ∙ rw (sound b all-sound)
+
+  patterns-is : found .patterns ≡ length (patternsOf b)
+  patterns-is = ap (λ (s : Sections). s .patterns) (c .before .before .read-sections .ensures) ∙ rw (sound b all-sound)
+
+  few : found .functions ≤ 10
+  few = omega (arith, functions-is, length-functions b, all-sound .functions .high)
+
+  some : found .patterns ≤ 1024
+  some = omega (arith, patterns-is, length-patterns b, all-sound .patterns .high)
+
+  count : found .functions * found .patterns ≤ 10240
+  count = mul-le-mul few some
+
+  past : pastPatterns b ≡ 4 + 2 * found .functions + 2 * found .patterns
+  past = past-is b (found .functions) (found .patterns) functions-is patterns-is
+
+  size : length (answered (functionsOf b) (patternsOf b)) ≡ 4 + 2 * found .functions + 2 * found .patterns + 2 + 2 * (found .functions * found .patterns)
+  size = size-is b (found .functions) (found .patterns) functions-is patterns-is
+
+mul-end : tie.Need-mul-end
+mul-end c = omega (arith, few c)
+
+add-end : tie.Need-add-end
+add-end c = omega (arith, few c)
+
+mul-end-2 : tie.Need-mul-end-2
+mul-end-2 c = omega (arith, some c)
+
+add-end-2 : tie.Need-add-end-2
+add-end-2 c = omega (arith, few c, some c)
+
+add-written : tie.Need-add-written
+add-written c = omega (arith, few c, some c)
+
+mul-written : tie.Need-mul-written
+mul-written c = omega (arith, count c)
+
+mul-written-2 : tie.Need-mul-written-2
+mul-written-2 c = omega (arith, count c)
+
+add-written-2 : tie.Need-add-written-2
+add-written-2 c = omega (arith, few c, some c, count c)
+
+refused-requires-2 : tie.Need-refused-requires-2
+refused-requires-2 c κs = search needs
+
+returns-2 : tie.Need-returns-2
+returns-2 c =
+    let d = c .before .before in
+    let q = refused-call (b d) (output d) After (bytes-after (b d) (length (output d)) (all-sound d) (omega (arith, past d))) refl in
+    (c .refused2 .ensures ∙ q .0, q .1)
+
+refused-requires-3 : tie.Need-refused-requires-3
+refused-requires-3 c κs = search needs
+
+returns-3 : tie.Need-returns-3
+returns-3 c =
+    let d = c .before .before .before in
+    let q = refused-call (b d) (output d) Output (output-last (b d) (length (output d)) (all-sound d) (omega (arith, past d)) (omega (arith, size d))) refl in
+    (c .refused3 .ensures ∙ q .0, q .1)
+
+write-answered-requires : tie.Need-write-answered-requires
+write-answered-requires c κs =
+    let d = c .before .before .before in
+    let known = ap allKnown (functions-are (b d) (found d .functions) (found d .patterns) (functions-is d) (patterns-is d)) ∙ all-sound d .all-known in
+    (omega (arith, past d, sections-within (b d) (all-sound d)), (known, (omega (arith, count d), omega (arith, past d, sections-within (b d) (all-sound d), count d))))
+
+same-length : tie.Need-same-length
+same-length c = search needs
+
+returns-4 : tie.Need-returns-4
+returns-4 c =
+    let d = c .before .before .before .before .before .before in
+    let a : Accepted (b d) (length (output d)) =
+    record { sections = all-sound d; nothing-after = omega (arith, past d); room = omega (arith, size d) } in
+    let bytes : Bytes (b d) = λ i. d .before .before .before .before .shared-slice-known .given i .fits in
+    let w = writes-answered (b d) (output d) (found d .functions) (found d .patterns) (functions-is d) (patterns-is d) bytes a in
+    (accepted-result (b d) (output d) _ a (size d), cc w)
+
+pub answer-listing-spec : {M : Type 1} → statement M
+answer-listing-spec =
+    tie.close
+    (tie.spec
+    read-sections-requires
+    number-requires
+    refused-requires
+    returns
+    mul-end
+    add-end
+    mul-end-2
+    add-end-2
+    add-written
+    mul-written
+    mul-written-2
+    add-written-2
+    refused-requires-2
+    returns-2
+    refused-requires-3
+    returns-3
+    write-answered-requires
+    same-length
+    returns-4)

@@ -1,0 +1,79 @@
+// The answers, all of the first function's, then the next's.
+ghost use mathlib.Core.Path.{_≡_};
+ghost use mathlib.Core.Bool.{true};
+ghost use mathlib.Core.List.{_++_, map};
+ghost use Prim.Native.Nat.{_+_, _*_, _≤_, _<_};
+ghost use lib.ListN.{length};
+ghost use lib.Seq.{sets};
+ghost use Rattle.p16e1.specs.Functions.{known, answerOf};
+ghost use Rattle.listing.specs.Numbers.{bytesOfAll, numbersAt};
+ghost use Rattle.listing.specs.Sections.{section, answersAt};
+ghost use Rattle.listing.specs.Order.{allKnown};
+use crate::numbers::copy;
+use crate::numbers::number_at;
+use crate::numbers::put_number;
+
+// Writes the answered form of the listing in `input`, which has so many functions and patterns and nothing after them.
+pub fn write_answered(input: &[u8], functions: usize, patterns: usize, output: &mut [u8])
+    requires { ⌜ length (now input) ≡ 4 + 2 * functions + 2 * patterns ⌝ }
+    requires { ⌜ allKnown (numbersAt (now input) 2 functions) ≡ true ⌝ }
+    requires { ⌜ functions * patterns < 65536 ⌝ }
+    requires { ⌜ length (now input) + 2 + 2 * (functions * patterns) ≤ length (now output) ⌝ }
+    ensures { λ _. ⌜ now (output .exit) ≡ sets (now (output .entry)) 0 (now (input .entry) ++ section (answersAt (now (input .entry)) functions patterns)) ⌝ }
+{
+    copy(input, output);
+    let end = input.len();
+    put_number(output, end, (functions * patterns) as u16);
+    write_answers(input, functions, patterns, output, end + 2);
+}
+
+// Writes the answers of the functions to the patterns from the place `to` on.
+fn write_answers(input: &[u8], functions: usize, patterns: usize, output: &mut [u8], to: usize)
+    requires { ⌜ 4 + 2 * functions + 2 * patterns ≤ length (now input) ⌝ }
+    requires { ⌜ allKnown (numbersAt (now input) 2 functions) ≡ true ⌝ }
+    requires { ⌜ to + 2 * (functions * patterns) ≤ length (now output) ⌝ }
+    ensures { λ _. ⌜ now (output .exit) ≡ sets (now (output .entry)) to (bytesOfAll (answersAt (now (input .entry)) functions patterns)) ⌝ }
+{
+    let from = 2 + 2 * functions + 2;
+    let mut at = to;
+    let mut i: usize = 0;
+    while i < functions {
+        let function = number_at(input, 2 + 2 * i);
+        write_row(function, input, from, patterns, output, at);
+        at += 2 * patterns;
+        i += 1;
+    }
+}
+
+// Writes one function's answers to the `patterns` patterns that stand from the place `from` on.
+fn write_row(
+    function: u16,
+    input: &[u8],
+    from: usize,
+    patterns: usize,
+    output: &mut [u8],
+    to: usize,
+)
+    requires { ⌜ known function ≡ true ⌝ }
+    requires { ⌜ from + 2 * patterns ≤ length (now input) ⌝ }
+    requires { ⌜ to + 2 * patterns ≤ length (now output) ⌝ }
+    ensures { λ _. ⌜ now (output .exit) ≡ sets (now (output .entry)) to (bytesOfAll (map (answerOf function) (numbersAt (now (input .entry)) from patterns))) ⌝ }
+{
+    let mut i: usize = 0;
+    while i < patterns {
+        let a = answer(function, number_at(input, from + 2 * i));
+        put_number(output, to + 2 * i, a);
+        i += 1;
+    }
+}
+
+// The answer of a known function.
+fn answer(function: u16, p: u16) -> u16
+    requires { ⌜ known function ≡ true ⌝ }
+    ensures { λ r. ⌜ r ≡ answerOf function p ⌝ }
+{
+    let p16e1::Answered::Pattern(r) = p16e1::answer(function, p) else {
+        return 0;
+    };
+    r
+}
