@@ -117,23 +117,29 @@ decodes p b m eb em some most =
     lead : (2 ^ t + x % 2 ^ t) * 2 ^ 12 ≡ (2 ^ 12 + f) * 2 ^ t
     lead = omega (arith, fraction m p some most, add-mul (2 ^ t) (x % 2 ^ t) (2 ^ 12), add-mul (2 ^ 12) f (2 ^ t))
 
--- u, from u * 2 ^ 12 as the product of a number and a power of two
-module _ (u lead w : ℕ) (scaled : u * 2 ^ 12 ≡ lead * 2 ^ w) where
-  pub scaled-down : w ≤ 12 → lead / 2 ^ (12 - w) ≡ u
-  scaled-down h =
-      let e : lead ≡ u * 2 ^ (12 - w) =
-      eq-of-mul-eq-mul-right (2 ^ w) (pow-pos w) lead (u * 2 ^ (12 - w))
-      (sym scaled
-      ∙ ap (λ (y : ℕ). u * y) (ap (λ (k : ℕ). 2 ^ k) (let k : 12 ≡ 12 - w + w = omega arith in k) ∙ pow-add 2 (12 - w) w)
-      ∙ sym (mul-assoc u (2 ^ (12 - w)) (2 ^ w))) in
-      ap (λ (y : ℕ). y / 2 ^ (12 - w)) e ∙ mul-div-cancel u (pow-pos (12 - w))
+-- a power, twice h, that the bit above the 12 of a fraction counts into, and the fraction, in one word
+module _ (h g s : ℕ) (twice : 2 * h ≡ g) where
+  both : s % 8192 ≡ s % 4096 + 4096 * (s / 4096 % 2)
+  both = omega arith
 
-  pub scaled-up : 12 ≤ w → lead * 2 ^ (w - 12) ≡ u
-  scaled-up h =
-      eq-of-mul-eq-mul-right (2 ^ 12) (pow-pos 12) (lead * 2 ^ (w - 12)) u
-      (mul-assoc lead (2 ^ (w - 12)) (2 ^ 12)
-      ∙ ap (λ (y : ℕ). lead * y) (sym (pow-add 2 (w - 12) 12) ∙ ap (λ (k : ℕ). 2 ^ k) (let k : w - 12 + 12 ≡ w = omega arith in k))
-      ∙ sym scaled)
+  pub packed-power : (8192 * h + s % 8192) / 4096 ≡ g + s / 4096 % 2
+  packed-power = let k = both in omega arith
+
+  pub packed-fraction : (8192 * h + s % 8192) % 4096 ≡ s % 4096
+  packed-fraction = let k = both in omega arith
+
+-- u, from u * 2 ^ 12 as the product of a number and a power of two
+pub scaled-back : (u lead w : ℕ) → u * 2 ^ 12 ≡ lead * 2 ^ w → w ≤ 57 → (lead * 2 ^ 45) / 2 ^ (57 - w) ≡ u
+scaled-back u lead w scaled h =
+    let all : 2 ^ 12 * 2 ^ 45 ≡ 2 ^ (57 - w) * 2 ^ w = ap (λ (k : ℕ). 2 ^ k) {x = 57} (let k : 57 ≡ 57 - w + w = omega arith in k) ∙ pow-add 2 (57 - w) w in
+    let e : lead * 2 ^ 45 ≡ u * 2 ^ (57 - w) =
+    eq-of-mul-eq-mul-right (2 ^ w) (pow-pos w) (lead * 2 ^ 45) (u * 2 ^ (57 - w))
+    (mul-right-comm lead (2 ^ 45) (2 ^ w)
+    ∙ ap (λ (y : ℕ). y * 2 ^ 45) (sym scaled)
+    ∙ mul-assoc u (2 ^ 12) (2 ^ 45)
+    ∙ ap (λ (y : ℕ). u * y) all
+    ∙ sym (mul-assoc u (2 ^ (57 - w)) (2 ^ w))) in
+    ap (λ (y : ℕ). y / 2 ^ (57 - w)) e ∙ mul-div-cancel u (pow-pos (57 - w))
 
 -- a magnitude decodes in one way
 lead-below : (w w' f f' : ℕ) → w < w' → f < 2 ^ 12 → (2 ^ 12 + f) * 2 ^ w ≡ (2 ^ 12 + f') * 2 ^ w' → ⊥

@@ -1,15 +1,27 @@
 -- f / 2 ^ 63 * 2 ^ s with one exponent bit: x is the exponent bit and then the fraction. Cutting x to the t bits that come
 -- after the regime gives the pattern of 17 bits, and from it the answer.
 use Prim.Native.Nat.{ℕ, suc, _+_, _-_, _*_, _/_, _%_, _^_, _≤_, _<_}
-use mathlib.Core.Path.{_≡_, _∙_, subst, sym, ap}
+use mathlib.Core.Path.{_≡_, refl, _∙_, subst, sym, ap}
 use native.Mathlib.Omega.{arith}
-use native.Mathlib.Nat.{mod-lt, mul-assoc, zero-mul, le-mul-of-pos-right}
+use native.Mathlib.Nat.{mod-lt, mul-assoc, mul-mod-left, zero-mul, le-mul-of-pos-right}
 use lib.Pow.{pow-pos, pow-add, shr-lt, split}
 use Rattle.posit.specs.Rounding.{ratio, Rounded}
 use Rattle.posit.proofs.Value.{mod-times}
 use Rattle.posit.proofs.Shapes.{index}
 use Rattle.posit.proofs.Regimes.{Layout}
 use Rattle.posit.proofs.Between.{floated-is, pattern-most, answer}
+
+-- u, the half of v or the one above it, is even where v lies between: a is v's half, and m its last bit
+module _ (v a m u : ℕ) (half : a ≡ v / 2) (last : m ≡ a % 2) (picked : u ≡ (v + m) / 2) where
+  even-above : 2 * u ≡ suc v → u % 2 ≡ 0
+  even-above g =
+      let h : 1 ≤ m = omega arith in
+      let k : u ≡ a + 1 = omega arith in
+      let e : u ≡ (a / 2 + 1) * 2 = omega arith in
+      ap (λ (y : ℕ). y % 2) e ∙ mul-mod-left (a / 2 + 1) 2
+
+  even-below : v ≡ 2 * u + 1 → u % 2 ≡ 0
+  even-below g = let h : m ≡ 0 = omega arith in let k : u ≡ a = omega arith in ap (λ (y : ℕ). y % 2) k ∙ sym last ∙ h
 
 module _ (f s t b : ℕ) (top : 2 ^ 63 ≤ f) (fits : f < 2 ^ 64) (l : Layout (s / 2) t b) where
   abbrev x : ℕ
@@ -64,11 +76,11 @@ module _ (f s t b : ℕ) (top : 2 ^ 63 ≤ f) (fits : f < 2 ^ 64) (l : Layout (s
   answers u near far onto tie =
       subst (λ (y : ℕ). Rounded 1 16 (ratio y (2 ^ 93)) u) (floated-is f s top fits) (answer 1 (s / 2) t b q rest Z l fits-tail whole small u near far onto tie)
 
-  pub kept : v % 2 ≡ 0 → Rounded 1 16 (ratio (f * 2 ^ s) (2 ^ 93)) (v / 2)
-  kept e = answers (v / 2) (omega arith) (omega arith) (λ g. absurd (omega arith)) (λ g. absurd (omega arith))
+  pub on : (x * 2 ^ t) % 2 ^ 64 ≡ 0 → Rounded 1 16 (ratio (f * 2 ^ s) (2 ^ 93)) ((v + v / 2 % 2) / 2)
+  on none =
+      answers ((v + v / 2 % 2) / 2) (omega arith) (omega arith)
+      (λ g z. even-above v (v / 2) (v / 2 % 2) ((v + v / 2 % 2) / 2) refl refl refl g)
+      (λ g. (none-cut none, even-below v (v / 2) (v / 2 % 2) ((v + v / 2 % 2) / 2) refl refl refl g))
 
-  pub raised : (v % 2 ≡ 0 → ⊥) → ((x * 2 ^ t) % 2 ^ 64 ≡ 0 → ⊥) → Rounded 1 16 (ratio (f * 2 ^ s) (2 ^ 93)) (v / 2 + 1)
-  raised e some = answers (v / 2 + 1) (omega arith) (omega arith) (λ g z. absurd (some (none-left z))) (λ g. absurd (omega arith))
-
-  pub tied : (v % 2 ≡ 0 → ⊥) → (x * 2 ^ t) % 2 ^ 64 ≡ 0 → Rounded 1 16 (ratio (f * 2 ^ s) (2 ^ 93)) (v / 2 + v / 2 % 2)
-  tied e none = answers (v / 2 + v / 2 % 2) (omega arith) (omega arith) (λ g z. omega arith) (λ g. (none-cut none, omega arith))
+  pub off : ((x * 2 ^ t) % 2 ^ 64 ≡ 0 → ⊥) → Rounded 1 16 (ratio (f * 2 ^ s) (2 ^ 93)) ((v + 1) / 2)
+  off some = answers ((v + 1) / 2) (omega arith) (omega arith) (λ g z. absurd (some (none-left z))) (λ g. absurd (omega arith))

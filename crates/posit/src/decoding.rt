@@ -3,7 +3,7 @@
 // The sign bit is not looked at. Callers decode the magnitude of a number; zero and NaR, which have none, decode as the
 // smallest posit does.
 ghost use mathlib.Core.Path.{_≡_};
-ghost use Prim.Native.Nat.{_+_, _-_, _*_, _≤_};
+ghost use Prim.Native.Nat.{_+_, _-_, _*_, _/_, _%_, _≤_};
 ghost use Rattle.posit.specs.Number.{bit, run, regime, magnitude};
 ghost use Rattle.posit.specs.Decoding.{Decodes};
 
@@ -29,29 +29,36 @@ fn run_length(p: u16, b: u16) -> u32
     15
 }
 
-// The power of two that a run of m bits b says, counted from the smallest.
-fn regime_power(b: u16, m: u32) -> u32
+// Half the power of two that a run of m bits b says, counted from the smallest.
+fn half_power(b: u16, m: u32) -> u32
     requires { ⌜ (1 ≤ m) × (m ≤ 15) ⌝ }
-    ensures { λ w. ⌜ w ≡ regime 1 16 b m ⌝ }
+    ensures { λ h. ⌜ 2 * h ≡ regime 1 16 b m ⌝ }
 {
     if b == 0 {
-        if m < 14 { 28 - 2 * m } else { 0 }
+        if m < 14 { 14 - m } else { 0 }
     } else {
-        26 + 2 * m
+        13 + m
     }
 }
 
-// The run is shifted out, so that its end stands at bit 13, the exponent at bit 12 and the fraction below.
-pub fn decode(p: u16) -> Decoded
-    ensures { λ d. ⌜ Decodes p (d .power) (d .fraction) ⌝ }
+// The power and then the 12 bits of the fraction, in one word. The run is shifted out, so that its end stands at bit 13, the
+// exponent, which counts into the power, at bit 12, and the fraction below.
+fn fields(p: u16) -> u32
+    ensures { λ w. ⌜ Decodes p (w / 4096) (w % 4096) ⌝ }
 {
     let b = (p >> 14) % 2;
     let m = run_length(p, b);
     let bits = (p as u32) << (m - 1);
-    let power = regime_power(b, m) + bits / 4096 % 2;
+    8192 * half_power(b, m) + bits % 8192
+}
+
+pub fn decode(p: u16) -> Decoded
+    ensures { λ d. ⌜ Decodes p (d .power) (d .fraction) ⌝ }
+{
+    let w = fields(p);
     Decoded {
-        power,
-        fraction: bits % 4096,
+        power: w / 4096,
+        fraction: w % 4096,
     }
 }
 
@@ -59,12 +66,7 @@ pub fn decode(p: u16) -> Decoded
 pub fn units(p: u16) -> u64
     ensures { λ r. ⌜ r ≡ magnitude 1 16 p ⌝ }
 {
-    let d = decode(p);
-    let lead = (4096 + d.fraction) as u64;
-    let power = d.power;
-    if power < 12 {
-        lead >> (12 - power)
-    } else {
-        lead << (power - 12)
-    }
+    let w = fields(p);
+    let lead = (4096 + w % 4096) as u64;
+    (lead << 45) >> (57 - w / 4096)
 }

@@ -1,10 +1,11 @@
--- `posit::rounding::place` meets its contract: nothing wraps, and each return is one of the three cases of `Words`.
+-- `posit::rounding::place` meets its contract: nothing wraps, and what is added is that of `Words` on the dividing number or off it.
 use borrow.Author.Needs.{needs}
 use Prim.Native.Nat.{ℕ, _/_, _≤_}
+use mathlib.Core.Logic.{⊎-elim}
 use native.Mathlib.Omega.{arith}
 use mir.Facts.{fits-of-lt}
 use Rattle.posit.proofs.Regimes.{Layout, laid}
-use Rattle.posit.proofs.Words.{v, v-most, kept, raised, tied}
+use Rattle.posit.proofs.Words.{v, v-most, on, off}
 use Rattle.posit.proofs.rounding.place.Statement.{statement}
 use Rattle.posit.proofs.rounding.place.Tie as tie
 use Rattle.posit.proofs.rounding.place.Reads as reads
@@ -61,29 +62,30 @@ shr-v c = let k = layout c .some in omega arith
 add-v : tie.Need-add-v
 add-v c = fits-of-lt (let k = most c in omega arith)
 
-cast-u : tie.Need-cast-u
-cast-u c = fits-of-lt (let k = most c in omega arith)
+cast-if1 : tie.Need-cast-if1
+cast-if1 c = search needs
 
-returns : tie.Need-returns
-returns c = let w = c .before in kept (f w) (s w) (t w) (b w) (omega arith) (omega arith) (layout w) (c .if1 .taken)
+shl-if1 : tie.Need-shl-if1
+shl-if1 c = let k = layout c .few in omega arith
 
-cast-if2 : tie.Need-cast-if2
-cast-if2 c = search needs
-
-shl-if2 : tie.Need-shl-if2
-shl-if2 c = let k = layout (c .before) .few in omega arith
+-- what is added is at most 1
+little : (c : tie.Joined1) → c .if1 .more ≤ 1
+little c = ⊎-elim (λ w. omega arith) (λ w. omega arith) (c .if1 .came)
 
 add-result : tie.Need-add-result
-add-result c = fits-of-lt (let k = most (c .before .before) in omega arith)
+add-result c = fits-of-lt (let k = most (c .before .before) in let m = little (c .before) in omega arith)
 
-returns-2 : tie.Need-returns-2
-returns-2 c = let w = c .before .before in raised (f w) (s w) (t w) (b w) (omega arith) (omega arith) (layout w) (c .before .if1 .left) (c .if2 .taken)
+cast-result : tie.Need-cast-result
+cast-result c = fits-of-lt (let k = most (c .before .before) in let m = little (c .before) in omega arith)
 
-add-result-2 : tie.Need-add-result-2
-add-result-2 c = fits-of-lt (let k = most (c .before .before) in omega arith)
-
-returns-3 : tie.Need-returns-3
-returns-3 c = let w = c .before .before in tied (f w) (s w) (t w) (b w) (omega arith) (omega arith) (layout w) (c .before .if1 .left) (c .if2 .left)
+returns : tie.Need-returns
+returns c =
+    let w = c .before .before in
+    let j = c .before .if1 in
+    ⊎-elim
+    (λ d. rw (d .1) (on (f w) (s w) (t w) (b w) (omega arith) (omega arith) (layout w) (d .0 .taken)))
+    (λ d. rw (d .1) (off (f w) (s w) (t w) (b w) (omega arith) (omega arith) (layout w) (d .0 .left)))
+    (j .came)
 
 pub place-spec : {M : Type 1} → statement M
 place-spec =
@@ -99,11 +101,8 @@ place-spec =
     cast-v
     shr-v
     add-v
-    cast-u
-    returns
-    cast-if2
-    shl-if2
+    cast-if1
+    shl-if1
     add-result
-    returns-2
-    add-result-2
-    returns-3)
+    cast-result
+    returns)

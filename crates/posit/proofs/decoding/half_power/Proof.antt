@@ -1,11 +1,11 @@
--- `posit::decoding::regime_power` meets its contract: each branch is the regime's clause for its bit.
+-- `posit::decoding::half_power` meets its contract: each branch is the regime's clause for its bit.
 use borrow.Author.Needs.{needs}
 use Prim.Native.Nat.{ℕ, zero, suc, _+_, _-_, _*_}
 use mathlib.Core.Path.{_≡_, refl}
 use native.Mathlib.Omega.{arith}
 use Rattle.posit.specs.Number.{regime}
-use Rattle.posit.proofs.decoding.regime_power.Statement.{statement}
-use Rattle.posit.proofs.decoding.regime_power.Tie as tie
+use Rattle.posit.proofs.decoding.half_power.Statement.{statement}
+use Rattle.posit.proofs.decoding.half_power.Tie as tie
 
 of-zeros : (b m : ℕ) → b ≡ 0 → regime 1 16 b m ≡ 28 - m * 2
 of-zeros zero m e = refl
@@ -15,14 +15,8 @@ of-ones : (b m : ℕ) → (b ≡ 0 → ⊥) → regime 1 16 b m ≡ 28 + (m - 1)
 of-ones zero m e = absurd (e refl)
 of-ones (suc b) m e = refl
 
-mul-result : tie.Need-mul-result
-mul-result c = search needs
-
 sub-result : tie.Need-sub-result
 sub-result c = search needs
-
-mul-result-2 : tie.Need-mul-result-2
-mul-result-2 c = search needs
 
 add-result : tie.Need-add-result
 add-result c = search needs
@@ -36,6 +30,6 @@ returns-2 c = omega (arith, of-zeros (c .before .before .args .b) (c .before .be
 returns-3 : tie.Need-returns-3
 returns-3 c = omega (arith, of-ones (c .before .args .b) (c .before .args .m) (c .if1 .left))
 
-pub regime-power-spec : {M : Type 1} → statement M
-regime-power-spec =
-    tie.close (tie.spec mul-result sub-result mul-result-2 add-result returns returns-2 returns-3)
+pub half-power-spec : {M : Type 1} → statement M
+half-power-spec =
+    tie.close (tie.spec sub-result add-result returns returns-2 returns-3)

@@ -1,0 +1,229 @@
+// The ten functions of softposit 0.4.0 and those of balehasp on the same inputs, called one by one through pointers of one
+// type; then the batch and the listing beside plain loops over the Rust functions. Prints nanoseconds a call or a pattern,
+// the median of several runs that take turns, and the ratio. The clock is the thread's own, which stands still while other
+// programs have the processor. With the words `count SIDE WORK` one side does one thing once and nothing is printed, for a
+// tool that counts instructions.
+mod original;
+
+use original::P16E1;
+use std::hint::black_box;
+
+type Function = extern "C" fn(u16) -> u16;
+
+macro_rules! sides {
+    ($($name:ident $theirs:ident $ours:ident)*) => {
+        $(
+            #[inline(never)]
+            extern "C" fn $theirs(p: u16) -> u16 {
+                P16E1::from_bits(p).$name().to_bits()
+            }
+        )*
+        #[link(name = "balehasp", kind = "static")]
+        unsafe extern "C" {
+            $(safe fn $ours(p: u16) -> u16;)*
+            fn balehasp_batch(function: u16, input: *const u16, inputs: usize, output: *mut u16, outputs: usize, start: usize, limit: usize, next: *mut usize, nars: *mut usize) -> u16;
+            fn balehasp_listing(input: *const u8, inputs: usize, output: *mut u8, outputs: usize, written: *mut usize) -> u16;
+        }
+        const FUNCTIONS: [(&str, Function, Function); 10] = [$((stringify!($name), $theirs, $ours)),*];
+    };
+}
+
+sides! {
+    exp rust_exp balehasp_exp
+    exp2 rust_exp2 balehasp_exp2
+    ln rust_ln balehasp_ln
+    log2 rust_log2 balehasp_log2
+    sin_pi rust_sin_pi balehasp_sin_pi
+    cos_pi rust_cos_pi balehasp_cos_pi
+    tan_pi rust_tan_pi balehasp_tan_pi
+    atan_pi rust_atan_pi balehasp_atan_pi
+    asin_pi rust_asin_pi balehasp_asin_pi
+    acos_pi rust_acos_pi balehasp_acos_pi
+}
+
+// Nanoseconds that this thread has run.
+fn now() -> i64 {
+    const CLOCK_THREAD_CPUTIME_ID: i32 = 3;
+    let mut time = [0_i64; 2];
+    // SAFETY: on 64-bit Linux a timespec is two 64-bit numbers.
+    let failed = unsafe { clock_gettime(CLOCK_THREAD_CPUTIME_ID, &mut time) };
+    assert_eq!(failed, 0);
+    time[0] * 1_000_000_000 + time[1]
+}
+
+unsafe extern "C" {
+    fn clock_gettime(clock: i32, time: &mut [i64; 2]) -> i32;
+}
+
+const RUNS: usize = 31;
+const SWEEPS: usize = 4;
+const NAR: u16 = 0x8000;
+
+#[inline(never)]
+fn sweep(f: Function, inputs: &[u16]) -> u64 {
+    inputs.iter().map(|&p| u64::from(f(p))).sum()
+}
+
+#[inline(never)]
+fn rust_batch(function: usize, input: &[u16], output: &mut [u16]) -> usize {
+    let f = FUNCTIONS[function - 1].1;
+    let mut nars = 0;
+    for (place, &p) in output.iter_mut().zip(input) {
+        *place = f(p);
+        nars += usize::from(*place == NAR);
+    }
+    nars
+}
+
+fn our_batch(function: usize, input: &[u16], output: &mut [u16]) -> usize {
+    let (mut next, mut nars) = (0, 0);
+    // SAFETY: each pointer comes with the length of its own slice, and the two slices are apart.
+    let refusal = unsafe {
+        balehasp_batch(function as u16, input.as_ptr(), input.len(), output.as_mut_ptr(), output.len(), 0, usize::MAX, &mut next, &mut nars)
+    };
+    assert!(refusal == 0 && next == input.len());
+    nars
+}
+
+fn number_at(bytes: &[u8], at: usize) -> u16 {
+    u16::from_le_bytes([bytes[at], bytes[at + 1]])
+}
+
+// A listing that is in order, answered.
+#[inline(never)]
+fn rust_listing(input: &[u8], output: &mut [u8]) -> usize {
+    let functions = usize::from(number_at(input, 0));
+    let from = 2 + 2 * functions + 2;
+    let patterns = usize::from(number_at(input, from - 2));
+    output[..input.len()].copy_from_slice(input);
+    let (_, rest) = output.split_at_mut(input.len());
+    rest[..2].copy_from_slice(&((functions * patterns) as u16).to_le_bytes());
+    for i in 0..functions {
+        let f = FUNCTIONS[usize::from(number_at(input, 2 + 2 * i)) - 1].1;
+        for j in 0..patterns {
+            let at = 2 + 2 * (i * patterns + j);
+            rest[at..at + 2].copy_from_slice(&f(number_at(input, from + 2 * j)).to_le_bytes());
+        }
+    }
+    input.len() + 2 + 2 * functions * patterns
+}
+
+fn our_listing(input: &[u8], output: &mut [u8]) -> usize {
+    let mut written = 0;
+    // SAFETY: as in `our_batch`.
+    let refusal = unsafe { balehasp_listing(input.as_ptr(), input.len(), output.as_mut_ptr(), output.len(), &mut written) };
+    assert!(refusal == 0);
+    written
+}
+
+// All patterns in an order that a linear congruential generator shuffles, the same in every run.
+fn shuffled() -> Vec<u16> {
+    let mut order: Vec<u16> = (0..=u16::MAX).collect();
+    let mut state = 20_261_115_u64;
+    for i in (1..order.len()).rev() {
+        state = state.wrapping_mul(6_364_136_223_846_793_005).wrapping_add(1_442_695_040_888_963_407);
+        order.swap(i, (state >> 33) as usize % (i + 1));
+    }
+    order
+}
+
+fn listing_of(patterns: &[u16]) -> Vec<u8> {
+    let mut numbers = vec![10];
+    numbers.extend(1..=10);
+    numbers.push(patterns.len() as u16);
+    numbers.extend(patterns);
+    numbers.iter().flat_map(|n| n.to_le_bytes()).collect()
+}
+
+fn median(mut times: Vec<f64>) -> f64 {
+    times.sort_by(f64::total_cmp);
+    times[times.len() / 2]
+}
+
+// Nanoseconds a unit of work for the Rust and for balehasp, which take turns and must agree on what they return.
+fn pair<T: PartialEq + std::fmt::Debug>(units: usize, mut theirs: impl FnMut() -> T, mut ours: impl FnMut() -> T) -> (f64, f64) {
+    assert_eq!(theirs(), ours());
+    let mut times = (Vec::new(), Vec::new());
+    let clock = |work: &mut dyn FnMut() -> T| {
+        let began = now();
+        for _ in 0..SWEEPS {
+            black_box(work());
+        }
+        (now() - began) as f64 / (SWEEPS * units) as f64
+    };
+    for _ in 0..RUNS {
+        times.0.push(clock(&mut theirs));
+        times.1.push(clock(&mut ours));
+    }
+    (median(times.0), median(times.1))
+}
+
+fn line(what: &str, (theirs, ours): (f64, f64)) {
+    println!("{what:<34} {theirs:>8.2} {ours:>8.2} {:>7.2}", ours / theirs);
+}
+
+fn functions(order: &str, inputs: &[u16]) {
+    let mut sums = (0.0, 0.0);
+    for (name, theirs, ours) in FUNCTIONS {
+        let times = pair(inputs.len(), || sweep(theirs, inputs), || sweep(ours, inputs));
+        line(&format!("{name}, {order}"), times);
+        sums = (sums.0 + times.0, sums.1 + times.1);
+    }
+    line(&format!("all ten, {order}"), (sums.0 / 10.0, sums.1 / 10.0));
+}
+
+fn batches(inputs: &[u16]) {
+    let mut output = (vec![0; inputs.len()], vec![0; inputs.len()]);
+    let times = pair(
+        10 * inputs.len(),
+        || (1..=10).map(|f| rust_batch(f, inputs, &mut output.0)).sum::<usize>(),
+        || (1..=10).map(|f| our_batch(f, inputs, &mut output.1)).sum::<usize>(),
+    );
+    line(&format!("batch, ten times {} patterns", inputs.len()), times);
+}
+
+fn listings(patterns: &[u16]) {
+    let input = listing_of(patterns);
+    let length = input.len() + 2 + 20 * patterns.len();
+    let mut output = (vec![0; length], vec![0; length]);
+    let times = pair(10 * patterns.len(), || rust_listing(&input, &mut output.0), || our_listing(&input, &mut output.1));
+    line(&format!("listing, 10 by {}", patterns.len()), times);
+    assert_eq!(output.0, output.1);
+}
+
+fn count(side: &str, work: &str, inputs: &[u16]) {
+    let rust = side == "rust";
+    let mut output = vec![0; inputs.len()];
+    let listing = listing_of(&inputs[..1024]);
+    let mut answered = vec![0; listing.len() + 2 + 20 * 1024];
+    match work {
+        "none" => (),
+        "batch" => (1..=10).for_each(|f| {
+            black_box(if rust { rust_batch(f, inputs, &mut output) } else { our_batch(f, inputs, &mut output) });
+        }),
+        "listing" => {
+            black_box(if rust { rust_listing(&listing, &mut answered) } else { our_listing(&listing, &mut answered) });
+        }
+        _ => {
+            let (_, theirs, ours) = FUNCTIONS.into_iter().find(|(name, ..)| *name == work).expect("a function's name");
+            black_box(sweep(if rust { theirs } else { ours }, inputs));
+        }
+    }
+}
+
+fn main() {
+    let random = shuffled();
+    let words: Vec<String> = std::env::args().collect();
+    if let [_, count_it, side, work] = &words[..] {
+        assert_eq!(count_it, "count");
+        return count(side, work, &random);
+    }
+    let in_order: Vec<u16> = (0..=u16::MAX).collect();
+    println!("{:<34} {:>8} {:>8} {:>7}", "ns a call", "Rust", "balehasp", "ratio");
+    functions("in order", &in_order);
+    functions("random order", &random);
+    for length in [4_096, 16_384, 65_536] {
+        batches(&random[..length]);
+    }
+    listings(&random[..1024]);
+}

@@ -1,0 +1,445 @@
+/* The compiled library from outside, against the answers of the original Rust and an independent model of document 01.
+ *
+ *   outside ANSWERS [SEED]
+ *
+ * ANSWERS is what oracle/record writes. Every buffer that a call gets lies between pages that may not be touched, against the
+ * one before it or the one after it; what it does not lend is filled with noise, and all of it is compared after the call. */
+#define _DEFAULT_SOURCE
+#include <inttypes.h>
+#include <math.h>
+#include <stdio.h>
+#include <stdlib.h>
+#include <string.h>
+#include <sys/mman.h>
+#include <unistd.h>
+
+#include "balehasp.h"
+
+#define FUNCTIONS 10
+#define PATTERNS 65536
+#define ROUNDS 1000000
+
+static uint16_t answers[FUNCTIONS][PATTERNS];
+static uint64_t state;
+
+static void fail(const char *what, uint64_t a, uint64_t b)
+{
+    fprintf(stderr, "outside: %s (%" PRIu64 ", %" PRIu64 ")\n", what, a, b);
+    exit(1);
+}
+
+static void expect(bool holds, const char *what, uint64_t a, uint64_t b)
+{
+    if (!holds)
+        fail(what, a, b);
+}
+
+static uint64_t noise(void)
+{
+    uint64_t z = state += 0x9E3779B97F4A7C15u;
+    z = (z ^ (z >> 30)) * 0xBF58476D1CE4E5B9u;
+    z = (z ^ (z >> 27)) * 0x94D049BB133111EBu;
+    return z ^ (z >> 31);
+}
+
+static uint64_t below(uint64_t n) { return noise() % n; }
+
+/* ---- buffers between pages that may not be touched */
+
+typedef struct {
+    uint8_t *bytes, *before; /* what a call may touch, and a copy of it */
+    size_t size;
+} Guarded;
+
+static Guarded guarded(size_t size)
+{
+    size_t page = (size_t)sysconf(_SC_PAGESIZE);
+    size = (size + page - 1) / page * page;
+    uint8_t *all = mmap(NULL, size + 2 * page, PROT_NONE, MAP_PRIVATE | MAP_ANONYMOUS, -1, 0);
+    if (all == MAP_FAILED || mprotect(all + page, size, PROT_READ | PROT_WRITE) != 0)
+        fail("no guarded memory", size, 0);
+    Guarded g = {all + page, malloc(size), size};
+    if (!g.before)
+        fail("no memory", size, 0);
+    for (size_t i = 0; i < size; i++)
+        g.bytes[i] = (uint8_t)noise();
+    return g;
+}
+
+/* A place for `size` bytes against the page before the buffer or the one after it. The bytes around it that a call could reach
+ * by a small slip are filled anew. */
+static uint8_t *place(Guarded *g, size_t size, bool at_end)
+{
+    uint8_t *p = at_end ? g->bytes + g->size - size : g->bytes;
+    size_t near = size + 64 < g->size ? size + 64 : g->size;
+    uint8_t *from = at_end ? g->bytes + g->size - near : g->bytes;
+    for (size_t i = 0; i < near; i += 8) {
+        uint64_t w = noise();
+        memcpy(from + i, &w, near - i < 8 ? near - i : 8);
+    }
+    return p;
+}
+
+static void keep(Guarded *g) { memcpy(g->before, g->bytes, g->size); }
+
+static void expect_same(const Guarded *g, const char *what, uint64_t a, uint64_t b)
+{
+    expect(memcmp(g->before, g->bytes, g->size) == 0, what, a, b);
+}
+
+/* ---- the functions, all patterns */
+
+static void each_function(void)
+{
+    uint16_t (*const entries[FUNCTIONS])(uint16_t) = {
+        balehasp_exp, balehasp_exp2, balehasp_ln, balehasp_log2, balehasp_sin_pi,
+        balehasp_cos_pi, balehasp_tan_pi, balehasp_atan_pi, balehasp_asin_pi, balehasp_acos_pi};
+    for (unsigned f = 1; f <= FUNCTIONS; f++) {
+        for (unsigned p = 0; p < PATTERNS; p++) {
+            expect(entries[f - 1]((uint16_t)p) == answers[f - 1][p], "a function differs from the Rust", f, p);
+            uint16_t answer = (uint16_t)~answers[f - 1][p];
+            expect(balehasp_answer((uint16_t)f, (uint16_t)p, &answer) == 0, "answer refuses a known function", f, p);
+            expect(answer == answers[f - 1][p], "answer differs from the Rust", f, p);
+        }
+    }
+    for (unsigned f = 0; f < 65536; f++) {
+        if (1 <= f && f <= FUNCTIONS)
+            continue;
+        uint16_t p = (uint16_t)noise(), poison = (uint16_t)noise(), answer = poison;
+        expect(balehasp_answer((uint16_t)f, p, &answer) == 1, "answer takes an unknown function", f, p);
+        expect(answer == poison, "a refused answer is written", f, p);
+    }
+    puts("655360 answers by ten entries, and again by number: all as the Rust's");
+    puts("65526 unknown function numbers: refused, nothing written");
+}
+
+/* ---- the batch */
+
+static size_t smaller(size_t a, size_t b) { return a < b ? a : b; }
+
+static Guarded batch_in, batch_out;
+
+static uint16_t one_batch(uint16_t f, size_t inputs, size_t outputs, size_t start, size_t limit)
+{
+    uint16_t *input = (uint16_t *)(void *)place(&batch_in, 2 * inputs, below(2));
+    uint16_t *output = (uint16_t *)(void *)place(&batch_out, 2 * outputs, below(2));
+    size_t next = (size_t)noise(), nars = (size_t)noise();
+    keep(&batch_in);
+    keep(&batch_out);
+    uint16_t *model = (uint16_t *)(void *)(batch_out.before + ((uint8_t *)output - batch_out.bytes));
+
+    uint16_t refusal = f < 1 || f > FUNCTIONS ? 1 : outputs < inputs ? 2 : inputs < start ? 3 : 0;
+    size_t done = refusal ? 0 : smaller(limit, inputs - start), found = 0;
+    for (size_t i = start; done && i < start + done; i++) {
+        model[i] = answers[f - 1][input[i]];
+        found += model[i] == BALEHASP_NAR;
+    }
+
+    uint16_t said = balehasp_batch(f, input, inputs, output, outputs, start, limit, &next, &nars);
+    expect(said == refusal, "a batch's refusal", said, refusal);
+    expect(next == start + done, "a batch's next place", next, start + done);
+    expect(nars == found, "a batch's count of NaR", nars, found);
+    expect_same(&batch_in, "a batch changes its input", f, inputs);
+    expect_same(&batch_out, "a batch's output", f, start);
+    return refusal;
+}
+
+static uint16_t some_function(void)
+{
+    switch (below(12)) {
+    case 0: return (uint16_t)noise();
+    case 1: return (uint16_t)(11 * below(2));
+    default: return (uint16_t)(1 + below(FUNCTIONS));
+    }
+}
+
+static size_t some_limit(size_t start)
+{
+    switch (below(6)) {
+    case 0: return 0;
+    case 1: return 1;
+    case 2: return SIZE_MAX - below(3);
+    case 3: return (size_t)0 - start + (size_t)below(5) - 2; /* start + limit about 2^64 */
+    default: return (size_t)below(80);
+    }
+}
+
+static void batches(void)
+{
+    batch_in = guarded(4096);
+    batch_out = guarded(4096);
+    /* the refusals, each alone and where several would be given */
+    expect(one_batch(0, 4, 4, 0, 4) == 1 && one_batch(11, 4, 3, 5, 0) == 1, "refusal 1 is first", 0, 0);
+    expect(one_batch(1, 4, 3, 0, 4) == 2 && one_batch(1, 4, 3, 5, 0) == 2, "refusal 2 is second", 0, 0);
+    expect(one_batch(1, 4, 4, 5, 4) == 3 && one_batch(1, 4, 4, 5, 0) == 3, "refusal 3, also at limit 0", 0, 0);
+    expect(one_batch(1, 4, 4, 4, 4) == 0 && one_batch(1, 0, 0, 0, 1) == 0 && one_batch(10, 4, 9, 1, 0) == 0, "no refusal", 0, 0);
+    /* each call starts where the last one ended: n patterns in n / limit calls, rounded up */
+    for (size_t n = 0; n <= 40; n++) {
+        for (size_t limit = 1; limit <= n + 1; limit++) {
+            uint16_t input[40], output[40];
+            size_t start = 0, calls = 0;
+            for (size_t i = 0; i < n; i++)
+                input[i] = (uint16_t)noise();
+            while (start < n) {
+                size_t next, nars;
+                expect(balehasp_batch(4, input, n, output, n, start, limit, &next, &nars) == 0, "a call in a row is refused", n, limit);
+                start = next;
+                calls++;
+            }
+            expect(calls == (n + limit - 1) / limit, "how many calls finish a batch", n, limit);
+            for (size_t i = 0; i < n; i++)
+                expect(output[i] == answers[3][input[i]], "an answer after calls in a row", n, i);
+        }
+    }
+    unsigned refusals[4] = {0};
+    for (int i = 0; i < ROUNDS; i++) {
+        size_t inputs = (size_t)(below(50) ? below(40) : below(2000));
+        size_t outputs = below(8) ? inputs + (size_t)below(4) : (size_t)below(inputs + 2);
+        size_t start = below(8) ? (size_t)below(inputs + 1) : below(4) ? inputs + (size_t)below(3) : (size_t)noise();
+        refusals[one_batch(some_function(), inputs, outputs, start, some_limit(start))]++;
+    }
+    printf("%d random batches as the model's; refused by 1, 2, 3: %u, %u, %u\n", ROUNDS, refusals[1], refusals[2], refusals[3]);
+}
+
+/* ---- the listing */
+
+static uint16_t number_at(const uint8_t *bytes, size_t at) { return (uint16_t)(bytes[at] | bytes[at + 1] << 8); }
+
+static size_t put(uint8_t *bytes, size_t at, uint16_t number)
+{
+    bytes[at] = (uint8_t)number;
+    bytes[at + 1] = (uint8_t)(number >> 8);
+    return at + 2;
+}
+
+/* The answered listing into `out`, which is long enough, and its length; or the refusal. */
+static uint16_t model_listing(const uint8_t *in, size_t length, size_t room, uint8_t *out, size_t *written)
+{
+    *written = 0;
+    if (length < 2)
+        return 4;
+    size_t functions = number_at(in, 0);
+    if (functions < 1 || functions > 10)
+        return 5;
+    if (length < 2 + 2 * functions)
+        return 4;
+    for (size_t i = 0; i < functions; i++)
+        if (number_at(in, 2 + 2 * i) < 1 || number_at(in, 2 + 2 * i) > FUNCTIONS)
+            return 1;
+    size_t from = 2 + 2 * functions + 2;
+    if (length < from)
+        return 4;
+    size_t patterns = number_at(in, from - 2);
+    if (patterns > 1024)
+        return 5;
+    if (length < from + 2 * patterns)
+        return 4;
+    if (length > from + 2 * patterns)
+        return 6;
+    if (room < length + 2 + 2 * functions * patterns)
+        return 2;
+    memcpy(out, in, length);
+    size_t at = put(out, length, (uint16_t)(functions * patterns));
+    for (size_t i = 0; i < functions; i++)
+        for (size_t j = 0; j < patterns; j++)
+            at = put(out, at, answers[number_at(in, 2 + 2 * i) - 1][number_at(in, from + 2 * j)]);
+    *written = at;
+    return 0;
+}
+
+static Guarded listing_in, listing_out;
+static uint8_t model_out[32768];
+
+static uint16_t one_listing(const uint8_t *bytes, size_t length, size_t room)
+{
+    uint8_t *input = place(&listing_in, length, below(2)), *output = place(&listing_out, room, below(2));
+    size_t written = (size_t)noise(), wanted;
+    memcpy(input, bytes, length);
+    keep(&listing_in);
+    keep(&listing_out);
+    uint16_t refusal = model_listing(bytes, length, room, model_out, &wanted);
+    memcpy(listing_out.before + (output - listing_out.bytes), model_out, wanted);
+    uint16_t said = balehasp_listing(input, length, output, room, &written);
+    expect(said == refusal, "a listing's refusal", said, refusal);
+    expect(written == wanted, "how many bytes a listing writes", written, wanted);
+    expect_same(&listing_in, "a listing changes its input", length, room);
+    expect_same(&listing_out, "a listing's output", length, room);
+    return refusal;
+}
+
+static size_t some_listing(uint8_t *bytes)
+{
+    size_t functions = (size_t)(1 + below(10)), patterns = (size_t)(below(100) ? below(24) : below(1025));
+    size_t at = put(bytes, 0, (uint16_t)functions);
+    for (size_t i = 0; i < functions; i++)
+        at = put(bytes, at, (uint16_t)(1 + below(FUNCTIONS)));
+    at = put(bytes, at, (uint16_t)patterns);
+    for (size_t i = 0; i < patterns; i++)
+        at = put(bytes, at, (uint16_t)noise());
+    return at;
+}
+
+/* The same, with damage: cut short, lengthened, a bit turned over, a count or a function number changed. */
+static size_t damage(uint8_t *bytes, size_t length)
+{
+    switch (below(6)) {
+    case 0: return (size_t)below(length);
+    case 1:
+        for (size_t i = length; i < length + 3; i++)
+            bytes[i] = (uint8_t)noise();
+        return length + 1 + (size_t)below(3);
+    case 2: bytes[below(length)] ^= (uint8_t)(1 << below(8)); return length;
+    case 3: put(bytes, 0, (uint16_t)(below(2) ? below(13) : noise())); return length;
+    case 4: put(bytes, 2 + 2 * (size_t)number_at(bytes, 0), (uint16_t)(below(2) ? 1023 + below(3) : noise())); return length;
+    default: put(bytes, 2 + 2 * (size_t)below(number_at(bytes, 0)), (uint16_t)(below(2) ? 11 * below(2) : noise())); return length;
+    }
+}
+
+static void listings(void)
+{
+    static uint8_t bytes[4096];
+    listing_in = guarded(4096);
+    listing_out = guarded(4096);
+    static const uint8_t in[] = {1, 0, 2, 0, 2, 0, 0x00, 0x40, 0x00, 0x80};
+    static const uint8_t out[] = {1, 0, 2, 0, 2, 0, 0x00, 0x40, 0x00, 0x80, 2, 0, 0x00, 0x50, 0x00, 0x80};
+    uint8_t got[sizeof out];
+    size_t written;
+    expect(balehasp_listing(in, sizeof in, got, sizeof got, &written) == 0 && written == sizeof out && memcmp(got, out, sizeof out) == 0, "the whole case of document 01", 0, 0);
+    /* the whole case cut at each place, lengthened, and with an output that is too short by one */
+    for (size_t n = 0; n < sizeof in; n++)
+        expect(one_listing(in, n, 64) == 4, "a listing that is cut short", n, 0);
+    memcpy(bytes, in, sizeof in);
+    expect(one_listing(bytes, sizeof in + 1, 0) == 6, "6 comes before 2", 0, 0);
+    expect(one_listing(in, sizeof in, sizeof out - 1) == 2 && one_listing(in, sizeof in, sizeof out) == 0, "the shortest output", 0, 0);
+
+    unsigned refusals[7] = {0};
+    for (int i = 0; i < ROUNDS; i++) {
+        size_t length = some_listing(bytes), wanted;
+        if (below(2))
+            length = damage(bytes, length);
+        model_listing(bytes, length, SIZE_MAX, model_out, &wanted);
+        size_t room = below(6) ? wanted + (size_t)below(9) : (size_t)below(wanted + 1);
+        if (listing_out.size < room + 64)
+            listing_out = guarded(32768);
+        refusals[one_listing(bytes, length, room)]++;
+        if (listing_out.size > 4096) { /* a small one again, so that comparing all of it stays quick */
+            static Guarded small;
+            if (!small.bytes)
+                small = guarded(4096);
+            Guarded large = listing_out;
+            listing_out = small;
+            munmap(large.bytes, large.size);
+            free(large.before);
+        }
+    }
+    printf("%d random and damaged listings as the model's; refused by 1, 2, 4, 5, 6: %u, %u, %u, %u, %u\n", ROUNDS,
+           refusals[1], refusals[2], refusals[4], refusals[5], refusals[6]);
+}
+
+/* ---- reals and spans */
+
+/* The number of the posit p of n bits with one exponent bit, which is neither zero nor NaR, read off its bits. */
+static double number_of(uint32_t p, int n)
+{
+    bool negative = p >> (n - 1);
+    if (negative)
+        p = (1u << n) - p;
+    int first = p >> (n - 2) & 1, m = 0, at = n - 2;
+    while (at >= 0 && (int)(p >> at & 1) == first) {
+        m++;
+        at--;
+    }
+    at--; /* the bit that ends the run */
+    int e = at >= 0 ? (int)(p >> at & 1) : 0;
+    double fraction = at > 0 ? (double)(p & ((1u << at) - 1)) / (double)(1u << at) : 0.0;
+    double size = ldexp(1.0 + fraction, 2 * (first ? m - 1 : -m) + e);
+    return negative ? -size : size;
+}
+
+/* The pattern that x rounds to, by the dividing numbers: the largest magnitude that x reaches. */
+static uint16_t rounded(double x)
+{
+    if (isnan(x) || isinf(x))
+        return BALEHASP_NAR;
+    if (x == 0)
+        return 0;
+    double size = fabs(x);
+    uint32_t u = 1, past = 0x8000;
+    while (past - u > 1) {
+        uint32_t middle = (u + past) / 2;
+        double dividing = number_of(2 * (middle - 1) + 1, 17); /* between middle - 1 and middle */
+        if (dividing < size || (dividing == size && middle % 2 == 0))
+            u = middle;
+        else
+            past = middle;
+    }
+    return (uint16_t)(x < 0 ? 0u - u : u);
+}
+
+static bool same_bits(double a, double b) { return memcmp(&a, &b, sizeof a) == 0; }
+
+static void one_real(double x) { expect(balehasp_from_f64(x) == rounded(x), "from_f64", rounded(x), balehasp_from_f64(x)); }
+
+static void reals(void)
+{
+    for (uint32_t p = 0; p < PATTERNS; p++) {
+        double poison = ldexp((double)noise(), -70), real = poison, lower = poison, upper = poison;
+        bool is_real = balehasp_to_f64((uint16_t)p, &real), has_span = balehasp_span((uint16_t)p, &lower, &upper);
+        if (p == BALEHASP_NAR) {
+            expect(!is_real && same_bits(real, poison), "NaR is no real", p, 0);
+            expect(!has_span && same_bits(lower, poison) && same_bits(upper, poison), "NaR has no span", p, 0);
+            continue;
+        }
+        expect(is_real && same_bits(real, p ? number_of(p, 16) : 0.0), "to_f64", p, 0);
+        expect(has_span && same_bits(lower, number_of((2 * p + 0x1FFFF) & 0x1FFFF, 17)) && same_bits(upper, number_of(2 * p + 1, 17)), "the span", p, 0);
+        double from[] = {real, lower, upper};
+        for (int i = 0; i < 3; i++) {
+            one_real(from[i]);
+            one_real(nextafter(from[i], INFINITY));
+            one_real(nextafter(from[i], -INFINITY));
+        }
+    }
+    double ends[] = {0.0, -0.0, INFINITY, -INFINITY, NAN, -NAN, 5e-324, -5e-324, 1.7976931348623157e308, -1.7976931348623157e308};
+    for (size_t i = 0; i < sizeof ends / sizeof *ends; i++)
+        one_real(ends[i]);
+    for (int i = 0; i < ROUNDS; i++) {
+        uint64_t bits = noise();
+        if (below(4)) /* most of them within the posits' range */
+            bits = (bits & 0x800FFFFFFFFFFFFFu) | (1023 - 32 + below(64)) << 52;
+        double x;
+        memcpy(&x, &bits, sizeof x);
+        one_real(x);
+    }
+    printf("65536 patterns to f64 and their spans, and %d numbers from f64: as the rule's\n", 65535 * 9 + 10 + ROUNDS);
+}
+
+static void read_answers(const char *path)
+{
+    FILE *file = fopen(path, "rb");
+    if (!file)
+        fail("cannot open the answers", 0, 0);
+    for (int f = 0; f < FUNCTIONS; f++)
+        for (int p = 0; p < PATTERNS; p++) {
+            uint8_t two[2];
+            expect(fread(two, 1, 2, file) == 2, "the answers are cut short", (uint64_t)f, (uint64_t)p);
+            answers[f][p] = number_at(two, 0);
+        }
+    fclose(file);
+}
+
+int main(int words, char **word)
+{
+    if (words < 2 || words > 3) {
+        fputs("usage: outside ANSWERS [SEED]\n", stderr);
+        return 2;
+    }
+    state = words == 3 ? strtoull(word[2], NULL, 0) : 20261115;
+    printf("seed %" PRIu64 "\n", state);
+    read_answers(word[1]);
+    each_function();
+    batches();
+    listings();
+    reals();
+    puts("outside: all passed");
+    return 0;
+}
