@@ -29,11 +29,11 @@ run-step b k p q same-bit same-run = λ i. elim (eqb (same-bit i) b) as (λ y. �
 again : (k p : ℕ) → p % 2 ^ suc k % 2 ^ k ≡ p % 2 ^ k
 again k p = ap (λ (x : ℕ). p % 2 ^ x % 2 ^ k) (sym (one-add k)) ∙ mod-mod-pow p 1 k
 
-same-bit : (k p : ℕ) → bit k p ≡ bit k (p % 2 ^ suc k)
+pub same-bit : (k p : ℕ) → bit k p ≡ bit k (p % 2 ^ suc k)
 same-bit k p = bit-low k p ∙ ap (λ (x : ℕ). x / 2 ^ k) (sym (mod-eq-of-lt (mod-lt p (pow-pos (suc k))))) ∙ sym (bit-low k (p % 2 ^ suc k))
 
 -- so is a run
-run-low : (b k p : ℕ) → run b k p ≡ run b k (p % 2 ^ k)
+pub run-low : (b k p : ℕ) → run b k p ≡ run b k (p % 2 ^ k)
 unfolding run
 run-low b zero p = refl
 run-low b (suc k) p = run-step b k p (p % 2 ^ suc k) (same-bit k p) (run-low b k p ∙ ap (run b k) (sym (again k p)) ∙ sym (run-low b k (p % 2 ^ suc k)))

@@ -3,8 +3,8 @@
 // The sign bit is not looked at. Callers decode the magnitude of a number; zero and NaR, which have none, decode as the
 // smallest posit does.
 ghost use mathlib.Core.Path.{_≡_};
-ghost use Prim.Native.Nat.{_+_, _-_, _*_, _/_, _%_, _≤_};
-ghost use Rattle.posit.specs.Number.{bit, run, regime, magnitude};
+ghost use Prim.Native.Nat.{_+_, _/_, _%_, _^_, _≤_, _<_};
+ghost use Rattle.posit.specs.Number.{magnitude};
 ghost use Rattle.posit.specs.Decoding.{Decodes};
 
 // (1 + fraction / 4096) * 2^power, in units of 2^-28.
@@ -13,52 +13,65 @@ pub struct Decoded {
     pub fraction: u32,
 }
 
-// How many bits of p after the sign, from the first of them on, equal that first one, b.
-fn run_length(p: u16, b: u16) -> u32
-    requires { ⌜ b ≡ bit 14 p ⌝ }
-    ensures { λ m. ⌜ m ≡ run b 15 p ⌝ }
-    ensures { λ m. ⌜ (1 ≤ m) × (m ≤ 15) ⌝ }
-{
-    let mut m: u32 = 1;
-    while m < 15 {
-        if (p >> (14 - m)) % 2 != b {
-            return m;
-        }
-        m += 1;
-    }
-    15
+// A pattern's regime, counted from the smallest, and its bits with the run shifted out: the end of the run stands at bit 13,
+// the exponent at bit 12 and the fraction below.
+struct Fields {
+    regime: u32,
+    bits: u32,
 }
 
-// Half the power of two that a run of m bits b says, counted from the smallest.
-fn half_power(b: u16, m: u32) -> u32
-    requires { ⌜ (1 ≤ m) × (m ≤ 15) ⌝ }
-    ensures { λ h. ⌜ 2 * h ≡ regime 1 16 b m ⌝ }
+// The fields of a pattern that starts with zeros. In this form clang makes the loop a count of leading zeros on Arm.
+fn past_zeros(p: u32) -> Fields
+    requires { ⌜ (0 < p) × (p < 2 ^ 14) ⌝ }
+    ensures { λ f. ⌜ Decodes p (f .regime + f .bits / 4096 % 2) (f .bits % 4096) ⌝ }
 {
-    if b == 0 {
-        if m < 14 { 14 - m } else { 0 }
-    } else {
-        13 + m
+    let mut bits = p;
+    let mut regime: u32 = 26;
+    while (bits >> 13) % 2 == 0 {
+        bits <<= 1;
+        regime -= 2;
+    }
+    Fields {
+        regime: regime,
+        bits: bits,
     }
 }
 
-// The power and then the 12 bits of the fraction, in one word. The run is shifted out, so that its end stands at bit 13, the
-// exponent, which counts into the power, at bit 12, and the fraction below.
-fn fields(p: u16) -> u32
-    ensures { λ w. ⌜ Decodes p (w / 4096) (w % 4096) ⌝ }
+// The fields of a pattern that starts with ones.
+fn past_ones(p: u32) -> Fields
+    requires { ⌜ (2 ^ 14 ≤ p) × (p < 2 ^ 15) ⌝ }
+    ensures { λ f. ⌜ Decodes p (f .regime + f .bits / 4096 % 2) (f .bits % 4096) ⌝ }
 {
-    let b = (p >> 14) % 2;
-    let m = run_length(p, b);
-    let bits = (p as u32) << (m - 1);
-    8192 * half_power(b, m) + bits % 8192
+    let mut bits = p;
+    let mut regime: u32 = 28;
+    while (bits >> 13) % 2 == 1 {
+        bits <<= 1;
+        regime += 2;
+    }
+    Fields {
+        regime: regime,
+        bits: bits,
+    }
+}
+
+// The fields of a pattern. The sign bit is left out, and zero is taken for 1.
+fn fields_of(p: u16) -> Fields
+    ensures { λ f. ⌜ Decodes p (f .regime + f .bits / 4096 % 2) (f .bits % 4096) ⌝ }
+{
+    let q = (p % 0x8000) as u32;
+    if q < 0x4000 {
+        return past_zeros(if q == 0 { 1 } else { q });
+    }
+    past_ones(q)
 }
 
 pub fn decode(p: u16) -> Decoded
     ensures { λ d. ⌜ Decodes p (d .power) (d .fraction) ⌝ }
 {
-    let w = fields(p);
+    let f = fields_of(p);
     Decoded {
-        power: w / 4096,
-        fraction: w % 4096,
+        power: f.regime + f.bits / 4096 % 2,
+        fraction: f.bits % 4096,
     }
 }
 
@@ -66,7 +79,7 @@ pub fn decode(p: u16) -> Decoded
 pub fn units(p: u16) -> u64
     ensures { λ r. ⌜ r ≡ magnitude 1 16 p ⌝ }
 {
-    let w = fields(p);
-    let lead = (4096 + w % 4096) as u64;
-    (lead << 45) >> (57 - w / 4096)
+    let f = fields_of(p);
+    let lead = 0x8000_0000_0000_0000 + (((f.bits % 4096) as u64) << 51);
+    lead >> (63 - f.regime - f.bits / 4096 % 2)
 }
