@@ -1,69 +1,33 @@
--- The square root, digit by digit from the highest: what holds between two digits, and that what it ends with is `root`.
+-- The square root: that Newton's steps go down and never below it, and that what they end with is `root`.
 use Prim.Native.Nat.{ℕ, zero, suc, _+_, _-_, _*_, _/_, _%_, _^_, _≤_, _<_}
-use mathlib.Core.Path.{_≡_, _∙_, ap, subst, refl}
+use mathlib.Core.Path.{_≡_}
 use native.Mathlib.Omega.{arith}
-use native.Mathlib.Nat.{mul-div-cancel, mod-eq-of-lt, mul-le-mul, one-le-pow, pow-suc, pow-succ'}
+use native.Mathlib.Nat.{div-lt-iff-lt-mul, lt-mul-div-succ, mod-eq-of-lt, mul-le-mul}
 use native.Mathlib.Decide.{decLe}
 use borrow.Author.Tests.{le-leb, lt-leb, leb-true, leb-false}
-use lib.Dec.{leb, lit<, lit≤}
+use lib.Dec.{leb}
 use Rattle.posit.specs.Answer.{descend}
 use Rattle.posit.proofs.Exists.{Edge, descends}
 use Rattle.arc.specs.Root.{Root, root}
 
--- the digits found are r, times the root of q; n is what f has beyond the square of that
-record Found (f res n r q : ℕ) : Type 0 where
-  shifted : res ≡ r * q
-  beyond : n + r * r * q ≡ f
-  short : n < (2 * r + 1) * q
+-- a mean is not below the root of the product
+mean : (a b : ℕ) → 4 * (a * b) ≤ (a + b) * (a + b)
+mean zero b = omega arith
+mean (suc a) zero = omega arith
+mean (suc a) (suc b) = let l = mean a b in omega arith
 
--- k digits are to come, and bit is the square of the next one's place: 0 after the last
-pub record Digits (f bit res n : ℕ) : Type 0 where
-  k : ℕ
-  few : bit ≤ 2 ^ 54
-  place : bit ≡ 4 ^ k / 4
-  r : ℕ
-  found : Found f res n r (4 ^ k)
+-- so the mean y of an x and f / x, though its half is cut off, is not below the root of f
+pub not-below : (f x y : ℕ) → 0 < x → x + f / x ≤ 2 * y + 1 → f < (y + 1) * (y + 1)
+not-below f x y some h =
+    let b = f / x + 1 in
+    let l : f < x * b = lt-mul-div-succ f some in
+    let s : (x + b) * (x + b) ≤ 2 * (y + 1) * (2 * (y + 1)) = mul-le-mul (omega arith) (omega arith) in
+    omega (arith, mean x b)
 
-pub none-yet : (f : ℕ) → f < 2 ^ 56 → Digits f (2 ^ 54) 0 f
-none-yet f h =
-    record { k = 28; few = lit≤ tt; place = refl; r = 0; found = record { shifted = omega arith; beyond = omega arith; short = omega arith } }
-
-module _ {f bit res n : ℕ} where
-  -- one digit more, b
-  digit : (b res' n' : ℕ) → Digits f bit res n → 0 < bit → ((r : ℕ) → Found f res n r (4 * bit) → Found f res' n' (2 * r + b) bit) → Digits f (bit / 4) res' n'
-  digit b res' n' d some new = go (d .k) (d .place) (d .found)
-    where
-      go : (k : ℕ) → bit ≡ 4 ^ k / 4 → Found f res n (d .r) (4 ^ k) → Digits f (bit / 4) res' n'
-      go zero p g = absurd (omega arith)
-      go (suc k) p g =
-          let e : bit ≡ 4 ^ k = p ∙ ap (λ (x : ℕ). x / 4) (pow-suc 4 k) ∙ mul-div-cancel (4 ^ k) (lit< tt) in
-          record {
-            k = k;
-            few = let l = d .few in omega arith;
-            place = ap (λ (x : ℕ). x / 4) e;
-            r = 2 * d .r + b;
-            found = subst (Found f res' n' (2 * d .r + b)) e (new (d .r) (subst (Found f res n (d .r)) (rw e (pow-succ' 4 k)) g));
-          }
-
-  pub digit-zero : Digits f bit res n → 0 < bit → n < res + bit → Digits f (bit / 4) (res / 2) n
-  digit-zero d some h = digit 0 (res / 2) n d some (λ r g. record { shifted = omega arith; beyond = omega arith; short = omega arith })
-
-  pub digit-one : Digits f bit res n → 0 < bit → res + bit ≤ n → Digits f (bit / 4) (res / 2 + bit) (n - (res + bit))
-  digit-one d some h = digit 1 (res / 2 + bit) (n - (res + bit)) d some (λ r g. record { shifted = omega arith; beyond = omega arith; short = omega arith })
-
-  pub sum-small : Digits f bit res n → f < 2 ^ 56 → res + bit < 2 ^ 57
-  sum-small d h = let l = at-most (d .r) (4 ^ d .k) (d .found) in omega arith
-    where
-      at-most : (r q : ℕ) → Found f res n r q → res ≤ f
-      at-most zero q g = omega arith
-      at-most (suc r) q g = omega arith
-
-pub all-found : {f res n : ℕ} → Digits f 0 res n → Root f res
-all-found {f} {res} {n} d = go (d .k) (d .place) (d .found)
-  where
-    go : (k : ℕ) → 0 ≡ 4 ^ k / 4 → Found f res n (d .r) (4 ^ k) → Root f res
-    go zero p g = let e : res ≡ d .r = omega arith in rw e (record { least = omega arith; most = omega arith })
-    go (suc k) p g = absurd (let e = pow-succ' 4 k in let s : 0 < 4 ^ k = one-le-pow k 4 (lit< tt) in omega arith)
+-- and from an x above the root the step goes down
+pub quotient-less : (f x : ℕ) → f < x * x → (0 < x) × (f / x < x)
+quotient-less f zero l = absurd (omega arith)
+quotient-less f (suc x) l = (omega arith, div-lt-iff-lt-mul {k = suc x} (omega arith) .1 l)
 
 roots-grow : (r s : ℕ) → r * r < (s + 1) * (s + 1) → r ≤ s
 roots-grow r s l = go (decLe r s)

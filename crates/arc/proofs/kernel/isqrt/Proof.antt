@@ -1,76 +1,50 @@
--- `arc::kernel::isqrt` meets its contract. The invariant of both loops is what Roots.antt says of the digits found: the
--- first loop finds those that are 0. The measure is bit.
+-- `arc::kernel::isqrt` meets its contract. The loop's invariant: x is not below the root, and its square fits. The measure
+-- is x.
+use Prim.Native.Nat.{_+_, _*_, _/_, _^_, _<_}
 use borrow.Author.Needs.{needs}
-use mathlib.Core.Logic.{⊎-elim}
+use native.Mathlib.Nat.{lt-of-le-of-lt}
 use native.Mathlib.Omega.{arith}
+use lib.Dec.{lit<}
 use mir.Facts.{fits-of-lt}
-use Rattle.arc.proofs.Roots.{Digits, none-yet, digit-zero, digit-one, sum-small, all-found}
+use Rattle.rows.proofs.Products.{product}
+use Rattle.arc.proofs.Roots.{not-below, quotient-less}
 use Rattle.arc.proofs.kernel.isqrt.Statement.{statement}
 use Rattle.arc.proofs.kernel.isqrt.Tie as tie
 
 abbrev Inv-loop : tie.InvT-loop
-Inv-loop f bit₀ res n bit = Digits f bit res n
+Inv-loop f x₀ x = (x < 2 ^ 29) × (f < (x + 1) * (x + 1))
 
 abbrev μ-loop : tie.MeasureT-loop
-μ-loop f bit₀ res n bit = bit
+μ-loop f x₀ x = x
 
-abbrev Inv-loop2 : tie.InvT-loop2
-Inv-loop2 f bit₀ res₀ n₀ bit res n = Digits f bit res n
+-- the step is taken only from above the root
+lower : (c : tie.In-loop Inv-loop μ-loop) → (0 < c .before .loop .x) × (c .before .before .args .f / c .before .loop .x < c .before .loop .x)
+lower c = quotient-less _ _ (omega arith)
 
-abbrev μ-loop2 : tie.MeasureT-loop2
-μ-loop2 f bit₀ res₀ n₀ bit res n = bit
+add-x : tie.Need-add-x Inv-loop μ-loop
+add-x c = search needs
 
-loop-holds : tie.Need-loop-holds Inv-loop μ-loop Inv-loop2 μ-loop2
-loop-holds c = none-yet (c .args .f) (c .pre)
+-- the start is the step from 2 ^ 27
+loop-holds : tie.Need-loop-holds Inv-loop μ-loop
+loop-holds c = (omega arith, not-below _ (2 ^ 27) _ (lit< tt) (omega arith))
 
-loop-less : tie.Need-loop-less Inv-loop μ-loop Inv-loop2 μ-loop2
-loop-less c = search needs
+mul-loop : tie.Need-mul-loop Inv-loop μ-loop
+mul-loop c = fits-of-lt (lt-of-le-of-lt (product (2 ^ 29) (2 ^ 29) (omega arith) (omega arith)) (lit< tt))
 
-loop-again : tie.Need-loop-again Inv-loop μ-loop Inv-loop2 μ-loop2
-loop-again c = digit-zero (c .before .loop .inv) (omega arith) (omega arith)
+div-x : tie.Need-div-x Inv-loop μ-loop
+div-x c = lower c .0
 
-loop2-holds : tie.Need-loop2-holds Inv-loop μ-loop Inv-loop2 μ-loop2
-loop2-holds c = c .before .loop .inv
+add-x-2 : tie.Need-add-x-2 Inv-loop μ-loop
+add-x-2 c = fits-of-lt (let l = lower c in omega arith)
 
-add-if1 : tie.Need-add-if1 Inv-loop μ-loop Inv-loop2 μ-loop2
-add-if1 c = fits-of-lt (let l = sum-small (c .before .loop2 .inv) (c .before .before .before .before .pre) in omega arith)
+loop-less : tie.Need-loop-less Inv-loop μ-loop
+loop-less c = let l = lower c in omega arith
 
-add-n : tie.Need-add-n Inv-loop μ-loop Inv-loop2 μ-loop2
-add-n c = fits-of-lt (let l = sum-small (c .before .before .loop2 .inv) (c .before .before .before .before .before .pre) in omega arith)
+loop-again : tie.Need-loop-again Inv-loop μ-loop
+loop-again c = let l = lower c in (omega arith, not-below _ (c .before .loop .x) _ (l .0) (omega arith))
 
-sub-n : tie.Need-sub-n Inv-loop μ-loop Inv-loop2 μ-loop2
-sub-n c = search needs
-
-add-res : tie.Need-add-res Inv-loop μ-loop Inv-loop2 μ-loop2
-add-res c = fits-of-lt (let l = sum-small (c .before .before .loop2 .inv) (c .before .before .before .before .before .pre) in omega arith)
-
-loop2-less : tie.Need-loop2-less Inv-loop μ-loop Inv-loop2 μ-loop2
-loop2-less c = search needs
-
-loop2-again : tie.Need-loop2-again Inv-loop μ-loop Inv-loop2 μ-loop2
-loop2-again c =
-    let d = c .before .before .loop2 .inv in
-    ⊎-elim (λ w. rw (w .1, w .2) (digit-one d (omega arith) (w .0 .taken))) (λ w. rw (w .1, w .2) (digit-zero d (omega arith) (w .0 .left))) (c .if1 .came)
-
-returns : tie.Need-returns Inv-loop μ-loop Inv-loop2 μ-loop2
-returns c = all-found (rw (c .loop2-test .left) at (c .before .loop2 .inv))
+returns : tie.Need-returns Inv-loop μ-loop
+returns c = record { least = omega arith; most = c .before .loop .inv .1 }
 
 pub isqrt-spec : {M : Type 1} → statement M
-isqrt-spec =
-    tie.close
-    (tie.spec
-    Inv-loop
-    μ-loop
-    Inv-loop2
-    μ-loop2
-    loop-holds
-    loop-less
-    loop-again
-    loop2-holds
-    add-if1
-    add-n
-    sub-n
-    add-res
-    loop2-less
-    loop2-again
-    returns)
+isqrt-spec = tie.close (tie.spec Inv-loop μ-loop add-x loop-holds mul-loop div-x add-x-2 loop-less loop-again returns)
