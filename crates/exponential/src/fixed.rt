@@ -6,9 +6,9 @@ ghost use Rattle.posit.specs.Number.{withSign};
 
 // base - x where negative is true, and base + x where it is not: a number of either sign, moved up.
 pub fn moved(base: u64, negative: bool, x: u64) -> u64
-    requires { ⌜ (x ≤ base) × (base < 2 ^ 62) ⌝ }
+    requires { ⌜ (x < base) × (base < 2 ^ 62) ⌝ }
     ensures { λ r. ⌜ withSign negative x +ℤ pos base ≡ pos r ⌝ }
-    ensures { λ r. ⌜ r ≤ base + base ⌝ }
+    ensures { λ r. ⌜ r < base + base ⌝ }
 {
     if negative { base - x } else { base + x }
 }

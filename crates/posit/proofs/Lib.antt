@@ -16,4 +16,5 @@ pub mod Nearest
 pub mod Regimes
 pub mod Between
 pub mod Words
+pub mod Apart
 pub mod Far

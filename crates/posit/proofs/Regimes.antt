@@ -1,7 +1,7 @@
 -- How a pattern of 17 bits is laid out by its regime r, counted from the smallest: t bits after the regime, and b, the
 -- pattern with only zeros there.
 use Prim.Native.Nat.{ℕ, suc, _+_, _-_, _^_, _≤_, _<_}
-use mathlib.Core.Path.{_≡_, ap}
+use mathlib.Core.Path.{_≡_, ap, refl}
 use mathlib.Core.Bool.{cond}
 use native.Mathlib.Omega.{arith}
 use native.Mathlib.Nat.{pow-suc}
@@ -36,9 +36,18 @@ high-half r t b lo hi et eb =
     λ q. (let a = ones-sum (15 - t) t q in let w : 2 ^ (15 - t + suc t) ≡ 2 ^ 16 = ap (λ (k : ℕ). 2 ^ k) {y = 16} (omega arith) in omega arith) in
     record { some = omega arith; few = omega arith; from = omega arith; to = omega arith; shape = λ q. os (15 - t) (omega arith) (omega arith) (sum q) (omega arith) }
 
-pub laid : (r t b : ℕ) → 1 ≤ r → r ≤ 28 → t ≡ cond (ltb r 15) r (29 - r) → b ≡ cond (ltb r 15) (2 ^ r) (2 ^ 16 - 2 ^ (30 - r)) → Layout r t b
-laid r t b lo hi et eb = go (decLt r 15)
-  where
-    go : Dec (r < 15) → Layout r t b
-    go (yes h) = low-half r t b lo h (rw (lt-ltb r 15 h) at et) (rw (lt-ltb r 15 h) at eb)
-    go (no h) = let g : 15 ≤ r = omega arith in high-half r t b g hi (rw (le-ltb r 15 g) at et) (rw (le-ltb r 15 g) at eb)
+-- the layout by k, how many bits of the run follow its first
+module _ (r k : ℕ) (lo : 1 ≤ r) (hi : r ≤ 28) (follow : k ≡ cond (ltb r 15) (14 - r) (r - 15)) where
+  pub run-most : k ≤ 13
+  run-most = go (decLt r 15)
+    where
+      go : Dec (r < 15) → k ≤ 13
+      go (yes h) = let e = (rw (lt-ltb r 15 h) at follow) in omega arith
+      go (no h) = let e = (rw (le-ltb r 15 (let g : 15 ≤ r = omega arith in g)) at follow) in omega arith
+
+  pub laid : Layout r (14 - k) (cond (ltb r 15) (2 ^ r) (2 ^ 16 - 2 ^ (30 - r)))
+  laid = go (decLt r 15)
+    where
+      go : Dec (r < 15) → Layout r (14 - k) (cond (ltb r 15) (2 ^ r) (2 ^ 16 - 2 ^ (30 - r)))
+      go (yes h) = let e = (rw (lt-ltb r 15 h) at follow) in rw (lt-ltb r 15 h) (low-half r (14 - k) (2 ^ r) lo h (omega arith) refl)
+      go (no h) = let g : 15 ≤ r = omega arith in let e = (rw (le-ltb r 15 g) at follow) in rw (le-ltb r 15 g) (high-half r (14 - k) (2 ^ 16 - 2 ^ (30 - r)) g hi (omega arith) refl)

@@ -69,9 +69,10 @@ pub fn decode(p: u16) -> Decoded
     ensures { λ d. ⌜ Decodes p (d .power) (d .fraction) ⌝ }
 {
     let f = fields_of(p);
+    let w = 4096 * f.regime + f.bits % 8192;
     Decoded {
-        power: f.regime + f.bits / 4096 % 2,
-        fraction: f.bits % 4096,
+        power: w / 4096,
+        fraction: w % 4096,
     }
 }
 

@@ -1,43 +1,58 @@
 // The rounding rule. Every answer that is no plain pattern is rounded here.
 ghost use mathlib.Core.Path.{_≡_};
-ghost use mathlib.Core.Bool.{cond};
-ghost use Prim.Native.Nat.{_+_, _-_, _*_, _^_, _≤_, _<_};
+ghost use mathlib.Core.Bool.{cond, true};
+ghost use Prim.Native.Nat.{_-_, _*_, _/_, _%_, _^_, _≤_, _<_};
 ghost use lib.Dec.{ltb};
 ghost use lib.IntN.{pos};
 ghost use lib.Ieee.{up, down};
 ghost use Rattle.posit.specs.Rounding.{ratio, dyadic, Rounded, Rounds};
 
-// How many bits of a pattern of 17 bits come after the regime r, which is counted from the smallest.
-fn tail_of(r: u32) -> u32
-    requires { ⌜ (1 ≤ r) × (r ≤ 28) ⌝ }
-    ensures { λ t. ⌜ t ≡ cond (ltb r 15) r (29 - r) ⌝ }
+// How many bits of the regime's run follow its first, for the power s, counted from -30.
+fn run_after(s: u32) -> u32
+    requires { ⌜ (2 ≤ s) × (s ≤ 57) ⌝ }
+    ensures { λ k. ⌜ k ≡ cond (ltb (s / 2) 15) (14 - s / 2) (s / 2 - 15) ⌝ }
 {
-    if r < 15 { r } else { 29 - r }
+    let half = (s as i32 - 30) >> 1;
+    if half < 0 {
+        (-1 - half) as u32
+    } else {
+        half as u32
+    }
 }
 
-// The pattern of 17 bits with the regime r and only zeros in the t bits after it.
-fn base_of(r: u32, t: u32) -> u64
-    requires { ⌜ (1 ≤ r) × (r ≤ 28) × (t ≡ cond (ltb r 15) r (29 - r)) ⌝ }
-    ensures { λ p. ⌜ p ≡ cond (ltb r 15) (2 ^ r) (2 ^ 16 - 2 ^ (30 - r)) ⌝ }
+// The pattern of 17 bits with the regime of s and only zeros after it, 48 places up. k bits of the run follow its first.
+fn base_of(s: u32, k: u32) -> u64
+    requires { ⌜ (2 ≤ s) × (s ≤ 57) × (k ≡ cond (ltb (s / 2) 15) (14 - s / 2) (s / 2 - 15)) ⌝ }
+    ensures { λ p. ⌜ p ≡ cond (ltb (s / 2) 15) (2 ^ (s / 2)) (2 ^ 16 - 2 ^ (30 - s / 2)) * 2 ^ 48 ⌝ }
 {
-    let end = 1u64 << t; // the bit that ends the run
-    if r < 15 { end } else { 0x10000 - 2 * end }
+    if s < 30 {
+        0x4000_0000_0000_0000 >> k
+    } else {
+        0xFFFF_FFFF_FFFF_FFFF - ((0x8000_0000_0000_0000 >> k) - 1)
+    }
 }
 
-// f / 2^63 * 2^s in units of 2^-30, for f with its top bit set and a power within the range of the posits of 17 bits.
-// x is the exponent bit and then the fraction; v is the number cut to 17 bits, whose last bit says on which side of the
-// dividing number it lies. What is added to v carries into the answer where that bit is 1: always off the dividing number,
-// and on it where the answer would be odd.
-fn place(f: u64, s: u32) -> u16
-    requires { ⌜ (2 ^ 63 ≤ f) × (2 ≤ s) × (s ≤ 57) ⌝ }
+// f / 2^63 * 2^s in units of 2^-30, for f with its top bit set and a power within the range of the posits of 17 bits; rest
+// tells whether anything stands in f's lowest 15 bits, of which some are dropped here. x is the exponent bit and then the
+// fraction; v is the number as a pattern whose last 49 bits the answer has not. What is added to v carries into the answer
+// above the dividing number, and on it where the answer would be odd.
+fn place(f: u64, s: u32, rest: bool) -> u16
+    requires { ⌜ (2 ^ 63 ≤ f) × (2 ≤ s) × (s ≤ 57) × (rest ≡ ltb 0 (f % 2 ^ 15)) ⌝ }
     ensures { λ u. ⌜ Rounded 1 16 (ratio (f * 2 ^ s) (2 ^ 93)) u ⌝ }
 {
-    let r = s / 2;
-    let x = ((s % 2) as u64) * 0x8000_0000_0000_0000 + (f - 0x8000_0000_0000_0000);
-    let t = tail_of(r);
-    let v = base_of(r, t) + (x >> (64 - t));
-    let more = if x << t == 0 { v / 2 % 2 } else { 1 };
-    ((v + more) / 2) as u16
+    let k = run_after(s);
+    let x = (f - 0x8000_0000_0000_0000) / 4 + ((s % 2) as u64) * 0x2000_0000_0000_0000;
+    let v = base_of(s, k) + (x >> k);
+    let more = if rest { 1 } else { (v >> 49) % 2 };
+    ((v + 0xFFFF_FFFF_FFFF + more) >> 49) as u16
+}
+
+// Whether anything stands in f's lowest 15 bits; short says that nothing does.
+fn below(f: u64, short: bool) -> bool
+    requires { ⌜ (short ≡ true → f % 2 ^ 15 ≡ 0) ⌝ }
+    ensures { λ r. ⌜ r ≡ ltb 0 (f % 2 ^ 15) ⌝ }
+{
+    if short { false } else { 0 < f % 0x8000 }
 }
 
 // e counted from -200, and held between 0 and 400: beyond these the answers are the smallest and the largest posit.
@@ -55,21 +70,37 @@ fn offset(e: i32) -> u32
     (e + 200) as u32
 }
 
-// The posit that the rounding rule gives for m * 2^e.
-pub fn round(m: u64, e: i32) -> u16
+// m * 2^e rounded; short says that m has at most 49 bits, so that nothing stands in the 15 below it. s is the number's power
+// of two, counted from -201: at 173 that of the smallest posit, and at 229 that of the largest.
+fn rounded(m: u64, e: i32, short: bool) -> u16
+    requires { ⌜ (short ≡ true → m < 2 ^ 49) ⌝ }
     ensures { λ u. ⌜ Rounds 1 16 (dyadic (pos m) e) u ⌝ }
 {
     if m == 0 {
         return 0;
     }
-    let k = offset(e);
     let z = u64::leading_zeros(m);
-    if k < 109 + z {
-        return 1;
+    let s = offset(e) + 64 - z;
+    if 172 < s {
+        if s < 229 {
+            let f = m << z;
+            return place(f, s - 171, below(f, short));
+        }
     }
-    let s = k - 107 - z;
-    if 57 < s {
-        return 0x7fff;
-    }
-    place(m << z, s)
+    if s < 173 { 1 } else { 0x7fff }
+}
+
+// The posit that the rounding rule gives for m * 2^e.
+pub fn round(m: u64, e: i32) -> u16
+    ensures { λ u. ⌜ Rounds 1 16 (dyadic (pos m) e) u ⌝ }
+{
+    rounded(m, e, false)
+}
+
+// The same for an m of at most 49 bits, which takes fewer steps.
+pub fn round_short(m: u64, e: i32) -> u16
+    requires { ⌜ m < 2 ^ 49 ⌝ }
+    ensures { λ u. ⌜ Rounds 1 16 (dyadic (pos m) e) u ⌝ }
+{
+    rounded(m, e, true)
 }

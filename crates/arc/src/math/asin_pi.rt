@@ -16,13 +16,15 @@ pub fn asin_pi(p: u16) -> u16
     if 0x4000 < size {
         return 0x8000; // x is past 1 or -1, or NaR
     }
-    posit::signed(negative, posit::round(angle(size), -30))
+    let k = angle(size) % 0x4000_0000; // the remainder tells the compiler: below 1
+    posit::signed(negative, posit::round_short(k, -30))
 }
 
 // The angle in units of 2^-30; from 1/2 on by way of the square root of 1 - x.
 fn angle(size: u16) -> u64
     requires { ⌜ (0 < size) × (size ≤ 0x4000) ⌝ }
     ensures { λ r. ⌜ r ≡ arc size (magnitude 1 16 size) ⌝ }
+    ensures { λ r. ⌜ r ≤ 2 ^ 29 ⌝ }
 {
     let x = posit::units(size);
     if size < 0x3000 {

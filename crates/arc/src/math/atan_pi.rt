@@ -16,13 +16,15 @@ pub fn atan_pi(p: u16) -> u16
     }
     let negative = 0x8000 < p;
     let size = posit::signed(negative, p);
-    posit::signed(negative, posit::round(angle(size), -30))
+    let k = angle(size) % 0x4000_0000; // the remainder tells the compiler: below 1
+    posit::signed(negative, posit::round_short(k, -30))
 }
 
 // The angle in units of 2^-30, by the range of the magnitude's pattern.
 fn angle(size: u16) -> u64
     requires { ⌜ (0 < size) × (size < 2 ^ 15) ⌝ }
     ensures { λ r. ⌜ r ≡ quotient size (magnitude 1 16 size) ⌝ }
+    ensures { λ r. ⌜ r ≤ 2 ^ 29 ⌝ }
 {
     let x = posit::units(size);
     if size <= 4925 {
@@ -40,6 +42,7 @@ fn angle(size: u16) -> u64
 fn small_angle(x: u64) -> u64
     requires { ⌜ x < 2 ^ 28 ⌝ }
     ensures { λ r. ⌜ r ≡ small x ⌝ }
+    ensures { λ r. ⌜ r ≤ 2 ^ 29 ⌝ }
 {
     (x << 30) / (((x * x) >> 34) * 67 + 843_314_118)
 }
@@ -47,6 +50,7 @@ fn small_angle(x: u64) -> u64
 fn large_angle(f: u64) -> u64
     requires { ⌜ (2 ^ 11 ≤ f) × (f ≤ 2 ^ 36) ⌝ }
     ensures { λ r. ⌜ r ≡ large f ⌝ }
+    ensures { λ r. ⌜ r ≤ 2 ^ 29 ⌝ }
 {
     0x2000_0000 - 0x0002_8BE5_FF80_0000 / ((f << 13) + 0x0AA5_5000 / f)
 }

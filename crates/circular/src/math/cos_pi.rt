@@ -7,13 +7,10 @@ ghost use Rattle.circular.specs.CosPi.{poly, series, unsigned, cosine, r
 pub fn cos_pi(p: u16) -> u16
     ensures { λ r. ⌜ Meets (row p) r ⌝ }
 {
-    if p == 0x8000 {
-        return 0x8000;
+    if p % 0x8000 == 0 {
+        return if p == 0 { 0x4000 } else { 0x8000 };
     }
     let size = posit::signed(0x8000 < p, p);
-    if size == 0 {
-        return 0x4000;
-    }
     cosine_of(posit::units(size))
 }
 
@@ -34,12 +31,14 @@ fn unsigned_cosine(q: u64, r: u64) -> u16
     if r == 0 {
         return if q % 2 == 1 { 0 } else { 0x4000 };
     }
-    posit::round(cos_poly(crate::quadrant::reflect(q, r)), -25)
+    let k = cos_poly(crate::quadrant::reflect(q, r)) % 0x0200_0000; // the remainder tells the compiler: below 1
+    posit::round_short(k, -25)
 }
 
 fn cos_poly(f: u64) -> u64
     requires { ⌜ f < 2 ^ 27 ⌝ }
     ensures { λ r. ⌜ r ≡ poly f ⌝ }
+    ensures { λ r. ⌜ r < 2 ^ 25 ⌝ }
 {
     if f < 0x000E_6001 {
         0x01FF_FFFF
@@ -51,6 +50,7 @@ fn cos_poly(f: u64) -> u64
 fn cos_series(fs: u64) -> u64
     requires { ⌜ fs < 2 ^ 16 ⌝ }
     ensures { λ r. ⌜ r ≡ series fs ⌝ }
+    ensures { λ r. ⌜ r < 2 ^ 25 ⌝ }
 {
     let fsq = (fs * fs) >> 8;
     let a = 349_194 - ((fsq * 28_875) >> 25);

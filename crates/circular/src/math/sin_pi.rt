@@ -7,13 +7,10 @@ ghost use Rattle.circular.specs.SinPi.{poly, series, unsigned, sine, row
 pub fn sin_pi(p: u16) -> u16
     ensures { λ r. ⌜ Meets (row p) r ⌝ }
 {
-    if p == 0x8000 {
-        return 0x8000;
-    }
     let negative = 0x8000 < p;
     let size = posit::signed(negative, p);
     if 31743 < size {
-        return 0; // x is a whole number
+        return if p == 0x8000 { 0x8000 } else { 0 }; // x is a whole number, or NaR
     }
     if size == 0 {
         return 0;
@@ -38,12 +35,13 @@ fn unsigned_sine(q: u64, r: u64) -> u16
     if r == 0 {
         return if q % 2 == 1 { 0x4000 } else { 0 };
     }
-    posit::round(sin_poly(crate::quadrant::reflect(q, r)), -28)
+    posit::round_short(sin_poly(crate::quadrant::reflect(q, r)), -28)
 }
 
 fn sin_poly(f: u64) -> u64
     requires { ⌜ f < 2 ^ 27 ⌝ }
     ensures { λ r. ⌜ r ≡ poly f ⌝ }
+    ensures { λ r. ⌜ r < 2 ^ 29 ⌝ }
 {
     if f < 0x000A_5801 {
         (f * 102_943) >> 15
@@ -55,6 +53,7 @@ fn sin_poly(f: u64) -> u64
 fn sin_series(fs: u64) -> u64
     requires { ⌜ fs < 2 ^ 16 ⌝ }
     ensures { λ r. ⌜ r ≡ series fs ⌝ }
+    ensures { λ r. ⌜ r < 2 ^ 29 ⌝ }
 {
     let fsq = (fs * fs) >> 8;
     let a = (fsq * 650) >> 25;

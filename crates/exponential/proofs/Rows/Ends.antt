@@ -1,9 +1,11 @@
 -- What rows 1 and 2 say, case by case, over the four numbers in which they differ; and the floors of their kernels.
-use Prim.Native.Nat.{ℕ, suc, _+_, _*_, _/_, _%_, _^_, _≤_, _<_}
+use Prim.Native.Nat.{ℕ, suc, _+_, _-_, _*_, _/_, _%_, _^_, _≤_, _<_}
 use mathlib.Core.Path.{_≡_, _∙_, ap, sym, subst}
 use mathlib.Core.Logic.{_⊎_, ⊎-elim}
+use mathlib.Core.Bool.{Bool, cond}
 use native.Mathlib.Omega.{arith}
 use native.Mathlib.Decide.{decLt}
+use native.Mathlib.Nat.{eq-or-lt-of-le}
 use borrow.Author.Tests.{lt-ltb, le-ltb, le-leb, lt-leb}
 use lib.Dec.{ltb}
 use lib.IntN.{ℤ, pos, negsuc, _+ℤ_, _-ℤ_, +ℤ-assoc}
@@ -11,8 +13,9 @@ use lib.Signed.{mag}
 use mir.Syntax.{w32}
 use mir.Val.{toZ, ofZ}
 use mir.Facts.{toZ-ofZ}
-use Rattle.posit.specs.Number.{number, magnitude, size, withSign}
+use Rattle.posit.specs.Number.{number, magnitude, size, opposite, withSign}
 use Rattle.posit.specs.Rounding.{Known, dyadic, Rounds}
+use Rattle.posit.proofs.Complement.{opposite-is}
 use Rattle.posit.proofs.Patterns.{number-nar, number-signed}
 use Rattle.rows.specs.Floor.{floor, modulo}
 use Rattle.rows.specs.Rows.{names, rounds, Meets}
@@ -74,6 +77,39 @@ module _ (a b c d : ℕ) (o : Ordered a b c d) (kernel : ℤ → Known) where
   kernel-meets {g = g} {n = n} p x K r l h out s k u v fits m =
       let is : kernel (withSign (ltb 0x8000 p) (magnitude 1 16 (size 16 p))) ≡ dyadic (pos (K + g)) n = ap (λ (y : ℕ). kernel (withSign (ltb 0x8000 p) y)) (sym s) ∙ k in
       rw (by-kernel p l h out, is) (subst (λ (y : Known). Rounds 1 16 y r) (λ i. dyadic (pos (K + u i)) ((toZ-ofZ {w = w32} (record { sfits = fits }) ∙ v) i)) m)
+
+-- the sign bit tells the sign of every number
+pub sign-bit : (p : ℕ) → (p ≡ 0x8000 → ⊥) → ltb 0x7fff p ≡ ltb 0x8000 p
+sign-bit p number = go (decLt 0x8000 p)
+  where
+    go : Dec (0x8000 < p) → ltb 0x7fff p ≡ ltb 0x8000 p
+    go (yes h) = lt-ltb 0x7fff p (omega arith) ∙ sym (lt-ltb 0x8000 p h)
+    go (no h) = le-ltb 0x7fff p (⊎-elim (λ e. absurd (number e)) (λ l. omega arith) (eq-or-lt-of-le (let k : p ≤ 0x8000 = omega arith in k))) ∙ sym (le-ltb 0x8000 p (omega arith))
+
+pub sized-by-bit : (p s : ℕ) → (p ≡ 0x8000 → ⊥) → s ≡ cond (ltb 0x7fff p) (opposite 16 p) p → s ≡ size 16 p
+sized-by-bit p s number is = is ∙ ap (λ (b : Bool). cond b (opposite 16 p) p) (sign-bit p number)
+
+-- the ends c and d are as far from zero on both sides, so one test of the size s finds what lies past them
+module _ (c d p s : ℕ) (both : c + d ≡ 0x10000) (some : 0 < p) (small : p < 0x10000) (is : s ≡ cond (ltb 0x7fff p) (opposite 16 p) p) where
+  plus : p ≤ 0x7fff → s ≡ p
+  plus h = rw (le-ltb 0x7fff p h) at is
+
+  minus : 0x7fff < p → s ≡ 0x10000 - p
+  minus h = (rw (lt-ltb 0x7fff p h) at is) ∙ opposite-is 16 p some
+
+  pub past-both : c ≤ 0x7fff → c ≤ s → (c ≤ p) × (p ≤ d)
+  past-both few h = go (decLt 0x7fff p)
+    where
+      go : Dec (0x7fff < p) → (c ≤ p) × (p ≤ d)
+      go (yes k) = let e = minus k in (omega arith, omega arith)
+      go (no k) = let e = plus (omega arith) in (omega arith, omega arith)
+
+  pub past-neither : s < c → c ≤ p → d < p
+  past-neither h l = go (decLt 0x7fff p)
+    where
+      go : Dec (0x7fff < p) → d < p
+      go (yes k) = let e = minus k in omega arith
+      go (no k) = let e = plus (omega arith) in absurd (omega arith)
 
 -- z + 32 * M * m is t: what is rounded, by the floor of floor(z / m) / M and the rest, is known by those of t
 module _ (z : ℤ) (m M t : ℕ) (some : 0 < m) (more : 0 < M) (moved : z +ℤ pos (32 * M * m) ≡ pos t) where

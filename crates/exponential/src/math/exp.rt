@@ -13,10 +13,8 @@ pub fn exp(p: u16) -> u16
     if 65407 < p {
         return 0x4000;
     }
-    if 28845 < p {
-        if p < 36691 {
-            return crate::ends::saturated(p);
-        }
+    if 28845 < posit::signed(0x7fff < p, p) {
+        return crate::ends::saturated(p);
     }
     kernel(p)
 }
@@ -26,11 +24,14 @@ fn kernel(p: u16) -> u16
     requires { ⌜ (192 ≤ p) × (p ≤ 65407) × (28845 < p → 36691 ≤ p) ⌝ }
     ensures { λ r. ⌜ Meets (row p) r ⌝ }
 {
-    let negative = 0x8000 < p;
+    let negative = 0x7fff < p;
     let x = posit::units(posit::signed(negative, p));
     let t = crate::fixed::moved(0x0400_0000_0000_0000, negative, x * 48_408_813) >> 28;
     let f = exp_poly(t % 0x0200_0000);
-    posit::round(0x20_0000_0000 + f, crate::fixed::less(t >> 25, 32 + 37))
+    posit::round_short(
+        0x20_0000_0000 + f,
+        crate::fixed::less((t >> 25) % 64, 32 + 37),
+    )
 }
 
 fn exp_poly(f: u64) -> u64

@@ -13,10 +13,8 @@ pub fn exp2(p: u16) -> u16
     if 65379 < p {
         return 0x4000;
     }
-    if 29376 < p {
-        if p < 36160 {
-            return crate::ends::saturated(p);
-        }
+    if 29376 < posit::signed(0x7fff < p, p) {
+        return crate::ends::saturated(p);
     }
     kernel(p)
 }
@@ -26,11 +24,11 @@ fn kernel(p: u16) -> u16
     requires { ⌜ (221 ≤ p) × (p ≤ 65379) × (29376 < p → 36160 ≤ p) ⌝ }
     ensures { λ r. ⌜ Meets (row p) r ⌝ }
 {
-    let negative = 0x8000 < p;
+    let negative = 0x7fff < p;
     let x = posit::units(posit::signed(negative, p));
     let t = crate::fixed::moved(0x2_0000_0000, negative, x);
     let f = exp2_poly((t >> 8) % 0x10_0000);
-    posit::round(0x400_0000 + f, crate::fixed::less(t >> 28, 32 + 26))
+    posit::round_short(0x400_0000 + f, crate::fixed::less((t >> 28) % 64, 32 + 26))
 }
 
 fn exp2_poly(f: u64) -> u64

@@ -22,7 +22,7 @@ add-result : tie.Need-add-result
 add-result c = search needs
 
 returns : tie.Need-returns
-returns c = rw (c .if1 .taken) (minus-moved (c .before .args .x) (c .before .args .base) (c .before .pre .0), search needs)
+returns c = rw (c .if1 .taken) (minus-moved (c .before .args .x) (c .before .args .base) (omega arith), search needs)
 
 returns-2 : tie.Need-returns-2
 returns-2 c = rw (c .if1 .left) (plus-moved (c .before .args .x) (c .before .args .base), search needs)

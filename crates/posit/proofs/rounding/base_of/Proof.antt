@@ -1,75 +1,70 @@
--- `posit::rounding::base_of` meets its contract: the one is not shifted out, and each branch is the side of `cond` that
--- the test picks.
+-- `posit::rounding::base_of` meets its contract: both words are powers of two shifted down by k, and each branch is the side
+-- of `cond` that the test picks.
+use borrow.Author.Needs.{needs}
 use borrow.Author.Tests.{lt-ltb, le-ltb}
-use Prim.Native.Nat.{ℕ, suc, _-_, _*_, _%_, _^_, _≤_, _<_}
-use mathlib.Core.Path.{_≡_, _∙_, ap, sym}
+use Prim.Native.Nat.{ℕ, _+_, _-_, _*_, _/_, _^_, _≤_, _<_}
+use mathlib.Core.Path.{_≡_, _∙_, ap}
 use mathlib.Core.Bool.{cond}
 use native.Mathlib.Omega.{arith}
-use native.Mathlib.Decide.{decLt}
-use native.Mathlib.Nat.{one-mul, mul-comm, pow-suc}
 use lib.Dec.{ltb}
-use lib.Pow.{pow-mono, shl-exact}
-use mir.Facts.{fits-of-lt}
+use lib.Pow.{pow-add, pow-mono, pow-pos, shl-shr}
 use Rattle.posit.proofs.rounding.base_of.Statement.{statement}
 use Rattle.posit.proofs.rounding.base_of.Tie as tie
 
-one-shifted : (l : ℕ) → l < 64 → (1 * 2 ^ l) % 2 ^ 64 ≡ 2 ^ l
-one-shifted l h = shl-exact {a = 1} 1 l 64 (omega arith) (omega arith) ∙ one-mul (2 ^ l)
+-- a power of two shifted down by k
+shifted : (n j k : ℕ) → n ≡ j + k → 2 ^ n / 2 ^ k ≡ 2 ^ j
+shifted n j k e = ap (λ (x : ℕ). 2 ^ x / 2 ^ k) e ∙ ap (λ (x : ℕ). x / 2 ^ k) (pow-add 2 j k) ∙ shl-shr (2 ^ j) k
 
--- t on each side of the test
-module _ (r t : ℕ) (tail : t ≡ cond (ltb r 15) r (29 - r)) where
-  low : r < 15 → t ≡ r
-  low h = rw (lt-ltb r 15 h) at tail
+-- k on each side of the test
+module _ (r k : ℕ) (follows : k ≡ cond (ltb r 15) (14 - r) (r - 15)) where
+  low : r < 15 → k ≡ 14 - r
+  low h = rw (lt-ltb r 15 h) at follows
 
-  high : 15 ≤ r → t ≡ 29 - r
-  high h = rw (le-ltb r 15 h) at tail
+  high : 15 ≤ r → k ≡ r - 15
+  high h = rw (le-ltb r 15 h) at follows
 
-  few : t ≤ 14
-  few = go (decLt r 15)
-    where
-      go : Dec (r < 15) → t ≤ 14
-      go (yes h) = let e = low h in omega arith
-      go (no h) = let e = high (omega arith) in omega arith
+  low-word : r < 15 → 2 ^ 62 / 2 ^ k ≡ 2 ^ r * 2 ^ 48
+  low-word h = let e = low h in shifted 62 (r + 48) k (omega arith) ∙ pow-add 2 r 48
 
-  end : (1 * 2 ^ t) % 2 ^ 64 ≡ 2 ^ t
-  end = let k = few in one-shifted t (omega arith)
+  high-word : 15 ≤ r → r ≤ 28 → 2 ^ 63 / 2 ^ k ≡ 2 ^ (30 - r) * 2 ^ 48
+  high-word h l = let e = high h in shifted 63 (30 - r + 48) k (omega arith) ∙ pow-add 2 (30 - r) 48
 
-  end-most : 2 ^ t ≤ 2 ^ 14
-  end-most = pow-mono {j = 14} few
+  end-most : 15 ≤ r → 2 ^ (30 - r) ≤ 2 ^ 15
+  end-most h = pow-mono {j = 15} (omega arith)
 
-  twice : 15 ≤ r → r ≤ 28 → 2 * 2 ^ t ≡ 2 ^ (30 - r)
-  twice lo hi = let e = high lo in mul-comm 2 (2 ^ t) ∙ sym (pow-suc 2 t) ∙ ap (λ (k : ℕ). 2 ^ k) (let k : suc t ≡ 30 - r = omega arith in k)
+shr-result : tie.Need-shr-result
+shr-result c = let a = c .before .args in let e = low (a .s / 2) (a .k) (c .before .pre .2) (omega arith) in omega arith
 
-shl-end : tie.Need-shl-end
-shl-end c = let k = few (c .args .r) (c .args .t) (c .pre .2) in omega arith
-
-mul-result : tie.Need-mul-result
-mul-result c =
-    let a = c .before .args in
-    let p = c .before .pre .2 in
-    fits-of-lt (let e = end (a .r) (a .t) p in let k = end-most (a .r) (a .t) p in omega arith)
+shr-result-2 : tie.Need-shr-result-2
+shr-result-2 c = let a = c .before .args in let e = high (a .s / 2) (a .k) (c .before .pre .2) (omega arith) in omega arith
 
 sub-result : tie.Need-sub-result
 sub-result c =
     let a = c .before .args in
-    let p = c .before .pre .2 in
-    let e = end (a .r) (a .t) p in
-    let k = end-most (a .r) (a .t) p in
+    let e = high-word (a .s / 2) (a .k) (c .before .pre .2) (omega arith) (omega arith) in
+    let p = pow-pos (30 - a .s / 2) in
+    omega arith
+
+sub-result-2 : tie.Need-sub-result-2
+sub-result-2 c =
+    let a = c .before .args in
+    let e = high-word (a .s / 2) (a .k) (c .before .pre .2) (omega arith) (omega arith) in
+    let m = end-most (a .s / 2) (a .k) (c .before .pre .2) (omega arith) in
     omega arith
 
 returns : tie.Need-returns
 returns c =
     let a = c .before .args in
-    let p = c .before .pre .2 in
-    rw (lt-ltb _ _ (c .if1 .taken)) (end (a .r) (a .t) p ∙ ap (λ (k : ℕ). 2 ^ k) (low (a .r) (a .t) p (c .if1 .taken)))
+    rw (lt-ltb (a .s / 2) 15 (omega arith)) (low-word (a .s / 2) (a .k) (c .before .pre .2) (omega arith))
 
 returns-2 : tie.Need-returns-2
 returns-2 c =
     let a = c .before .args in
-    let p = c .before .pre .2 in
-    let e = end (a .r) (a .t) p in
-    let k = twice (a .r) (a .t) p (c .if1 .left) (omega arith) in
-    rw (le-ltb _ _ (c .if1 .left)) (omega arith)
+    let e = high-word (a .s / 2) (a .k) (c .before .pre .2) (omega arith) (omega arith) in
+    let p = pow-pos (30 - a .s / 2) in
+    let m = end-most (a .s / 2) (a .k) (c .before .pre .2) (omega arith) in
+    rw (le-ltb (a .s / 2) 15 (omega arith)) (omega arith)
 
 pub base-of-spec : {M : Type 1} → statement M
-base-of-spec = tie.close (tie.spec shl-end mul-result sub-result returns returns-2)
+base-of-spec =
+    tie.close (tie.spec shr-result shr-result-2 sub-result sub-result-2 returns returns-2)

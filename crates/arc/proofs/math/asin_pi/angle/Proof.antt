@@ -14,7 +14,7 @@ asin-poly-requires : tie.Need-asin-poly-requires
 asin-poly-requires c κs = rw (c .before .units .ensures) (to-half (c .before .before .args .size) (omega arith) (omega arith))
 
 returns : tie.Need-returns
-returns c = rw (c .asin-poly .ensures .0, c .before .before .units .ensures, arc-below-half (c .before .before .before .args .size) _ (omega arith))
+returns c = (rw (c .asin-poly .ensures .0, c .before .before .units .ensures, arc-below-half (c .before .before .before .args .size) _ (omega arith)), omega arith)
 
 sub-isqrt : tie.Need-sub-isqrt
 sub-isqrt c = rw (c .before .units .ensures) (to-one (c .before .before .args .size) (omega arith) (omega arith))
@@ -35,7 +35,7 @@ returns-2 : tie.Need-returns-2
 returns-2 c =
     let s = c .before .before .before .before .args .size in
     let e = root-of-rest (c .before .before .before .units .ensures) (from-half s (omega arith) (omega arith)) (c .before .isqrt .ensures) .0 in
-    rw (c .asin-poly2 .ensures .0, e, arc-from-half s _ (omega arith))
+    (rw (c .asin-poly2 .ensures .0, e, arc-from-half s _ (omega arith)), omega arith)
 
 pub angle-spec : {M : Type 1} → statement M
 angle-spec =

@@ -32,13 +32,13 @@ small-angle-requires : tie.Need-small-angle-requires
 small-angle-requires c κs = rw (c .before .units .ensures) (below-one (c .before .before .args .size) (omega arith) (omega arith))
 
 returns : tie.Need-returns
-returns c = c .small-angle .ensures ∙ ap small (c .before .before .units .ensures) ∙ sym (quotient-small (c .before .before .before .args .size) _ (omega arith))
+returns c = (c .small-angle .ensures .0 ∙ ap small (c .before .before .units .ensures) ∙ sym (quotient-small (c .before .before .before .args .size) _ (omega arith)), c .small-angle .ensures .1)
 
 atan-poly-requires : tie.Need-atan-poly-requires
 atan-poly-requires c κs = rw (c .before .before .units .ensures) (to-one (c .before .before .before .args .size) (omega arith) (omega arith))
 
 returns-2 : tie.Need-returns-2
-returns-2 c = c .atan-poly .ensures .0 ∙ ap poly (c .before .before .before .units .ensures) ∙ sym (quotient-below-one (c .before .before .before .before .args .size) _ (omega arith) (omega arith))
+returns-2 c = (c .atan-poly .ensures .0 ∙ ap poly (c .before .before .before .units .ensures) ∙ sym (quotient-below-one (c .before .before .before .before .args .size) _ (omega arith) (omega arith)), c .atan-poly .ensures .1)
 
 div-atan-poly : tie.Need-div-atan-poly
 div-atan-poly c = rw (c .before .before .before .units .ensures) (let l = from-one (c .before .before .before .before .args .size) (omega arith) (omega arith) in omega arith)
@@ -50,15 +50,17 @@ sub-result : tie.Need-sub-result
 sub-result c = search needs
 
 returns-3 : tie.Need-returns-3
-returns-3 c =
-    ap (λ (y : ℕ). 0x2000_0000 - y) (c .atan-poly2 .ensures .0 ∙ ap (λ (x : ℕ). poly (2 ^ 40 / (x / 2 ^ 16))) (c .before .before .before .before .units .ensures))
-    ∙ sym (quotient-from-one (c .before .before .before .before .before .args .size) _ (omega arith) (omega arith))
+returns-3 c = (
+  ap (λ (y : ℕ). 0x2000_0000 - y) (c .atan-poly2 .ensures .0 ∙ ap (λ (x : ℕ). poly (2 ^ 40 / (x / 2 ^ 16))) (c .before .before .before .before .units .ensures))
+      ∙ sym (quotient-from-one (c .before .before .before .before .before .args .size) _ (omega arith) (omega arith)),
+  omega arith,
+)
 
 large-angle-requires : tie.Need-large-angle-requires
 large-angle-requires c κs = rw (c .before .before .before .units .ensures) (let l = far (c .before .before .before .before .args .size) (omega arith) (omega arith) in (omega arith, omega arith))
 
 returns-4 : tie.Need-returns-4
-returns-4 c = c .large-angle .ensures ∙ ap (λ (x : ℕ). large (x / 2 ^ 20)) (c .before .before .before .before .units .ensures) ∙ sym (quotient-large (c .before .before .before .before .before .args .size) _ (omega arith))
+returns-4 c = (c .large-angle .ensures .0 ∙ ap (λ (x : ℕ). large (x / 2 ^ 20)) (c .before .before .before .before .units .ensures) ∙ sym (quotient-large (c .before .before .before .before .before .args .size) _ (omega arith)), c .large-angle .ensures .1)
 
 pub angle-spec : {M : Type 1} → statement M
 angle-spec =

@@ -1,5 +1,6 @@
 -- `arc::math::atan_pi::large_angle` meets its contract: the divisor is at least 2 ^ 24, so that the quotient is small.
 use borrow.Author.Needs.{needs}
+use mathlib.Core.Path.{refl}
 use native.Mathlib.Omega.{arith}
 use native.Mathlib.Nat.{div-le-self, div-le-of-le-mul}
 use lib.Dec.{lit≤}
@@ -23,7 +24,7 @@ sub-result c = rw (shl-exact {a = c .args .f} 37 13 64 (omega arith) (lit≤ tt)
 
 returns : tie.Need-returns
 unfolding large
-returns c = rw (shl-exact {a = c .args .f} 37 13 64 (omega arith) (lit≤ tt))
+returns c = rw (shl-exact {a = c .args .f} 37 13 64 (omega arith) (lit≤ tt)) (refl, omega arith)
 
 pub large-angle-spec : {M : Type 1} → statement M
 large-angle-spec = tie.close (tie.spec div-result add-result div-result-2 sub-result returns)

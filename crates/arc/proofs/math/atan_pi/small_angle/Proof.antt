@@ -1,7 +1,9 @@
 -- `arc::math::atan_pi::small_angle` meets its contract: the square fits.
 use borrow.Author.Needs.{needs}
 use Prim.Native.Nat.{ℕ, _*_, _^_, _≤_, _<_}
+use mathlib.Core.Path.{refl}
 use native.Mathlib.Omega.{arith}
+use native.Mathlib.Nat.{div-le-of-le-mul}
 use lib.Dec.{lit≤}
 use lib.Pow.{shl-exact}
 use mir.Facts.{fits-of-lt}
@@ -27,7 +29,7 @@ div-result c = search needs
 
 returns : tie.Need-returns
 unfolding small
-returns c = rw (shl-exact {a = c .args .x} 28 30 64 (omega arith) (lit≤ tt))
+returns c = rw (shl-exact {a = c .args .x} 28 30 64 (omega arith) (lit≤ tt)) (refl, div-le-of-le-mul _ (omega arith))
 
 pub small-angle-spec : {M : Type 1} → statement M
 small-angle-spec = tie.close (tie.spec mul-result mul-result-2 add-result div-result returns)

@@ -69,7 +69,7 @@ sub-result c = let k = products (c .args .fs) (c .pre) in omega arith
 
 returns : tie.Need-returns
 unfolding series
-returns c = refl
+returns c = (refl, omega arith)
 
 pub cos-series-spec : {M : Type 1} → statement M
 cos-series-spec = tie.close (tie.spec mul-fsq mul-a sub-a mul-b sub-b mul-c sub-c mul-result sub-result returns)

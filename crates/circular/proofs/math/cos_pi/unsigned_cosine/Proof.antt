@@ -1,5 +1,8 @@
 -- `circular::math::cos_pi::unsigned_cosine` meets its contract: row 6 by the quadrant and the rest.
 use borrow.Author.Needs.{needs}
+use Prim.Native.Nat.{_%_, _^_}
+use mathlib.Core.Path.{_∙_}
+use native.Mathlib.Nat.{mod-eq-of-lt}
 use Rattle.circular.specs.CosPi.{poly, unsigned}
 use Rattle.circular.proofs.Rows.Quadrants.{rest-zero-odd, rest-zero-even, rest-some}
 use Rattle.circular.proofs.math.cos_pi.unsigned_cosine.Statement.{statement}
@@ -19,8 +22,8 @@ reflect-requires c κs = search needs
 cos-poly-requires : tie.Need-cos-poly-requires
 cos-poly-requires c κs = search needs
 
-round-requires : tie.Need-round-requires
-round-requires c κs = search needs
+round-short-requires : tie.Need-round-short-requires
+round-short-requires c κs = search needs
 
 returns-3 : tie.Need-returns-3
 unfolding unsigned
@@ -28,7 +31,7 @@ returns-3 c =
     let s = c .before .before .before in
     let f = c .before .before .reflect in
     let m = c .before .cos-poly in
-    rest-some poly 25 0 0x4000 (s .before .args .q) (s .before .args .r) (s .if1 .left) (f .result) (m .result) (c .round .result) (f .ensures .0) (m .ensures) (c .round .ensures)
+    rest-some poly 25 0 0x4000 (s .before .args .q) (s .before .args .r) (s .if1 .left) (f .result) (m .result % 2 ^ 25) (c .round-short .result) (f .ensures .0) (mod-eq-of-lt (m .ensures .1) ∙ m .ensures .0) (c .round-short .ensures)
 
 pub unsigned-cosine-spec : {M : Type 1} → statement M
-unsigned-cosine-spec = tie.close (tie.spec returns returns-2 reflect-requires cos-poly-requires round-requires returns-3)
+unsigned-cosine-spec = tie.close (tie.spec returns returns-2 reflect-requires cos-poly-requires round-short-requires returns-3)

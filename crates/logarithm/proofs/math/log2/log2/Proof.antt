@@ -49,8 +49,8 @@ mul-apart c = search needs
 apart-requires : tie.Need-apart-requires
 apart-requires c κs = search needs
 
-round-requires : tie.Need-round-requires
-round-requires c κs = search needs
+round-short-requires : tie.Need-round-short-requires
+round-short-requires c κs = search needs
 
 signed-requires : tie.Need-signed-requires
 signed-requires c κs = search needs
@@ -60,7 +60,7 @@ unfolding row
 returns-3 c =
     let l = c .before .before .before in
     let d = l .before .before .before in
-    at-plus logarithmic (c .before .round .result) (omega arith) (omega arith) (d .decode .ensures) (l .log2-poly .ensures .0) (c .before .before .apart .ensures) (c .before .round .ensures) (c .signed .ensures)
+    at-plus logarithmic (c .before .round-short .result) (omega arith) (omega arith) (d .decode .ensures) (l .log2-poly .ensures .0) (c .before .before .apart .ensures) (c .before .round-short .ensures) (c .signed .ensures)
 
 pub log2-spec : {M : Type 1} → statement M
 log2-spec =
@@ -77,6 +77,6 @@ log2-spec =
     mul-negative
     mul-apart
     apart-requires
-    round-requires
+    round-short-requires
     signed-requires
     returns-3)
