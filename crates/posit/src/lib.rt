@@ -7,6 +7,5 @@ pub use decoding::Decoded;
 pub use decoding::decode;
 pub use decoding::units;
 pub use rounding::round;
-pub use rounding::round_short;
 pub use sign::opposite;
 pub use sign::signed;

@@ -1,6 +1,6 @@
 // The rounding rule. Every answer that is no plain pattern is rounded here.
 ghost use mathlib.Core.Path.{_≡_};
-ghost use mathlib.Core.Bool.{cond, true};
+ghost use mathlib.Core.Bool.{cond};
 ghost use Prim.Native.Nat.{_-_, _*_, _/_, _%_, _^_, _≤_, _<_};
 ghost use lib.Dec.{ltb};
 ghost use lib.IntN.{pos};
@@ -47,12 +47,17 @@ fn place(f: u64, s: u32, rest: bool) -> u16
     ((v + 0xFFFF_FFFF_FFFF + more) >> 49) as u16
 }
 
-// Whether anything stands in f's lowest 15 bits; short says that nothing does.
-fn below(f: u64, short: bool) -> bool
-    requires { ⌜ (short ≡ true → f % 2 ^ 15 ≡ 0) ⌝ }
+// Whether anything stands in the lowest 15 bits of f, which is m shifted up: not where m has at most 49 bits, as the compiler
+// often knows.
+fn below(m: u64, f: u64) -> bool
+    requires { ⌜ (m < 2 ^ 49 → f % 2 ^ 15 ≡ 0) ⌝ }
     ensures { λ r. ⌜ r ≡ ltb 0 (f % 2 ^ 15) ⌝ }
 {
-    if short { false } else { 0 < f % 0x8000 }
+    if m < 0x2_0000_0000_0000 {
+        false
+    } else {
+        0 < f % 0x8000
+    }
 }
 
 // e counted from -200, and held between 0 and 400: beyond these the answers are the smallest and the largest posit.
@@ -70,10 +75,9 @@ fn offset(e: i32) -> u32
     (e + 200) as u32
 }
 
-// m * 2^e rounded; short says that m has at most 49 bits, so that nothing stands in the 15 below it. s is the number's power
-// of two, counted from -201: at 173 that of the smallest posit, and at 229 that of the largest.
-fn rounded(m: u64, e: i32, short: bool) -> u16
-    requires { ⌜ (short ≡ true → m < 2 ^ 49) ⌝ }
+// The posit that the rounding rule gives for m * 2^e. s is the number's power of two, counted from -201: at 173 that of the
+// smallest posit, and at 229 that of the largest.
+pub fn round(m: u64, e: i32) -> u16
     ensures { λ u. ⌜ Rounds 1 16 (dyadic (pos m) e) u ⌝ }
 {
     if m == 0 {
@@ -84,23 +88,8 @@ fn rounded(m: u64, e: i32, short: bool) -> u16
     if 172 < s {
         if s < 229 {
             let f = m << z;
-            return place(f, s - 171, below(f, short));
+            return place(f, s - 171, below(m, f));
         }
     }
     if s < 173 { 1 } else { 0x7fff }
-}
-
-// The posit that the rounding rule gives for m * 2^e.
-pub fn round(m: u64, e: i32) -> u16
-    ensures { λ u. ⌜ Rounds 1 16 (dyadic (pos m) e) u ⌝ }
-{
-    rounded(m, e, false)
-}
-
-// The same for an m of at most 49 bits, which takes fewer steps.
-pub fn round_short(m: u64, e: i32) -> u16
-    requires { ⌜ m < 2 ^ 49 ⌝ }
-    ensures { λ u. ⌜ Rounds 1 16 (dyadic (pos m) e) u ⌝ }
-{
-    rounded(m, e, true)
 }

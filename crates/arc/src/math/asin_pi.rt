@@ -17,7 +17,7 @@ pub fn asin_pi(p: u16) -> u16
         return 0x8000; // x is past 1 or -1, or NaR
     }
     let k = angle(size) % 0x4000_0000; // the remainder tells the compiler: below 1
-    posit::signed(negative, posit::round_short(k, -30))
+    posit::signed(negative, posit::round(k, -30))
 }
 
 // The angle in units of 2^-30; from 1/2 on by way of the square root of 1 - x.

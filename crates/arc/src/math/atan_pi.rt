@@ -17,7 +17,7 @@ pub fn atan_pi(p: u16) -> u16
     let negative = 0x8000 < p;
     let size = posit::signed(negative, p);
     let k = angle(size) % 0x4000_0000; // the remainder tells the compiler: below 1
-    posit::signed(negative, posit::round_short(k, -30))
+    posit::signed(negative, posit::round(k, -30))
 }
 
 // The angle in units of 2^-30, by the range of the magnitude's pattern.

@@ -32,7 +32,7 @@ fn unsigned_cosine(q: u64, r: u64) -> u16
         return if q % 2 == 1 { 0 } else { 0x4000 };
     }
     let k = cos_poly(crate::quadrant::reflect(q, r)) % 0x0200_0000; // the remainder tells the compiler: below 1
-    posit::round_short(k, -25)
+    posit::round(k, -25)
 }
 
 fn cos_poly(f: u64) -> u64

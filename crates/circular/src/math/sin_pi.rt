@@ -35,7 +35,7 @@ fn unsigned_sine(q: u64, r: u64) -> u16
     if r == 0 {
         return if q % 2 == 1 { 0x4000 } else { 0 };
     }
-    posit::round_short(sin_poly(crate::quadrant::reflect(q, r)), -28)
+    posit::round(sin_poly(crate::quadrant::reflect(q, r)), -28)
 }
 
 fn sin_poly(f: u64) -> u64

@@ -28,7 +28,7 @@ fn kernel(p: u16) -> u16
     let x = posit::units(posit::signed(negative, p));
     let t = crate::fixed::moved(0x0400_0000_0000_0000, negative, x * 48_408_813) >> 28;
     let f = exp_poly(t % 0x0200_0000);
-    posit::round_short(
+    posit::round(
         0x20_0000_0000 + f,
         crate::fixed::less((t >> 25) % 64, 32 + 37),
     )

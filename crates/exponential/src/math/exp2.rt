@@ -28,7 +28,7 @@ fn kernel(p: u16) -> u16
     let x = posit::units(posit::signed(negative, p));
     let t = crate::fixed::moved(0x2_0000_0000, negative, x);
     let f = exp2_poly((t >> 8) % 0x10_0000);
-    posit::round_short(0x400_0000 + f, crate::fixed::less((t >> 28) % 64, 32 + 26))
+    posit::round(0x400_0000 + f, crate::fixed::less((t >> 28) % 64, 32 + 26))
 }
 
 fn exp2_poly(f: u64) -> u64

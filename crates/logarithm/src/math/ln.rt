@@ -19,7 +19,7 @@ pub fn ln(p: u16) -> u16
     let negative = l < 28 * 0x4000_0000;
     let size = crate::fixed::apart(l, 28 * 0x4000_0000);
     let scale: u64 = if negative { 186_065_280 } else { 186_065_279 };
-    posit::signed(negative, posit::round_short((size * scale) >> 28, -30))
+    posit::signed(negative, posit::round((size * scale) >> 28, -30))
 }
 
 fn ln_poly(f: u64) -> u64

@@ -15,10 +15,10 @@ pub fn log2(p: u16) -> u16
         return 0x8000;
     }
     let d = posit::decode(p);
-    let l = (d.power as u64) * 0x1000_0000 + log2_poly(d.fraction as u64);
+    let l = (d.power as u64 % 64) * 0x1000_0000 + log2_poly(d.fraction as u64); // the remainder tells the compiler: it is small
     let negative = l < 28 * 0x1000_0000;
     let size = crate::fixed::apart(l, 28 * 0x1000_0000);
-    posit::signed(negative, posit::round_short(size, -28))
+    posit::signed(negative, posit::round(size, -28))
 }
 
 fn log2_poly(f: u64) -> u64

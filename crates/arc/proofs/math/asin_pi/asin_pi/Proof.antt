@@ -27,8 +27,8 @@ angle-requires c κs =
     let s : size 16 p ≤ 0x4000 = rw (c .before .signed .ensures) at (c .if2 .left) in
     rw (c .before .signed .ensures) (proper p (omega arith) (omega arith) (not-nar p s) .0, s)
 
-round-short-requires : tie.Need-round-short-requires
-round-short-requires c κs = search needs
+round-requires : tie.Need-round-requires
+round-requires c κs = search needs
 
 signed-requires-2 : tie.Need-signed-requires-2
 signed-requires-2 c κs = search needs
@@ -37,7 +37,7 @@ returns-3 : tie.Need-returns-3
 returns-3 c =
     let p = c .before .before .before .before .before .before .args .p in
     let e : c .before .before .angle .result % 2 ^ 30 ≡ arc (size 16 p) (magnitude 1 16 (size 16 p)) = mod-eq-of-lt (let l = c .before .before .angle .ensures .1 in omega arith) ∙ c .before .before .angle .ensures .0 ∙ ap (λ (u : ℕ). arc u (magnitude 1 16 u)) (c .before .before .before .before .signed .ensures) in
-    rw (c .signed2 .ensures) (by-arc p (c .before .round-short .result) (omega arith) (omega arith) (rw (c .before .before .before .before .signed .ensures) at (c .before .before .before .if2 .left)) (rw e at (c .before .round-short .ensures)))
+    rw (c .signed2 .ensures) (by-arc p (c .before .round .result) (omega arith) (omega arith) (rw (c .before .before .before .before .signed .ensures) at (c .before .before .before .if2 .left)) (rw e at (c .before .round .ensures)))
 
 pub asin-pi-spec : {M : Type 1} → statement M
-asin-pi-spec = tie.close (tie.spec returns signed-requires returns-2 angle-requires round-short-requires signed-requires-2 returns-3)
+asin-pi-spec = tie.close (tie.spec returns signed-requires returns-2 angle-requires round-requires signed-requires-2 returns-3)

@@ -56,8 +56,8 @@ moved-requires c κs = (near c, lit< tt)
 exp-poly-requires : tie.Need-exp-poly-requires
 exp-poly-requires c κs = search needs
 
-add-round-short : tie.Need-add-round-short
-add-round-short c = search needs
+add-round : tie.Need-add-round
+add-round c = search needs
 
 add-less : tie.Need-add-less
 add-less c = search needs
@@ -65,8 +65,8 @@ add-less c = search needs
 less-requires : tie.Need-less-requires
 less-requires c κs = search needs
 
-round-short-requires : tie.Need-round-short-requires
-round-short-requires c κs = search needs
+round-requires : tie.Need-round-requires
+round-requires c κs = search needs
 
 returns : tie.Need-returns
 returns c =
@@ -75,12 +75,12 @@ returns c =
     let m = c .before .before .before .moved in
     let z : withSign (ltb 0x8000 (p u)) (x u) *ℤ pos 48408813 +ℤ pos (2 ^ 58) ≡ pos (m .result) =
     rw (times-signed (ltb 0x8000 (p u)) (x u) 48408813) (ap (λ (b : Bool). withSign b (x u * 48408813) +ℤ pos (2 ^ 58)) (sym (sign-bit (p u) (number u))) ∙ m .ensures .0) in
-    kernel-meets 192 65407 28846 36690 ordered kernel (p u) (x u) (2 ^ 37) (c .round-short .result) (h .0) (h .1) (h .2) (is u)
+    kernel-meets 192 65407 28846 36690 ordered kernel (p u) (x u) (2 ^ 37) (c .round .result) (h .0) (h .1) (h .2) (is u)
     (kernel-moved (withSign (ltb 0x8000 (p u)) (x u)) (m .result) z)
     (c .before .before .exp-poly .ensures .0)
     (c .before .less .ensures ∙ ap (λ (y : ℕ). pos y -ℤ pos 69) (mod-eq-of-lt (let l = m .ensures .1 in let k : m .result / 2 ^ 28 / 2 ^ 25 < 64 = omega arith in k)))
     (c .before .less .ok)
-    (c .round-short .ensures)
+    (c .round .ensures)
 
 pub kernel-spec : {M : Type 1} → statement M
 kernel-spec =
@@ -91,8 +91,8 @@ kernel-spec =
     mul-moved
     moved-requires
     exp-poly-requires
-    add-round-short
+    add-round
     add-less
     less-requires
-    round-short-requires
+    round-requires
     returns)

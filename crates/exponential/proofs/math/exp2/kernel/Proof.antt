@@ -48,8 +48,8 @@ moved-requires c κs = (near c, lit< tt)
 exp2-poly-requires : tie.Need-exp2-poly-requires
 exp2-poly-requires c κs = search needs
 
-add-round-short : tie.Need-add-round-short
-add-round-short c = search needs
+add-round : tie.Need-add-round
+add-round c = search needs
 
 add-less : tie.Need-add-less
 add-less c = search needs
@@ -57,20 +57,20 @@ add-less c = search needs
 less-requires : tie.Need-less-requires
 less-requires c κs = search needs
 
-round-short-requires : tie.Need-round-short-requires
-round-short-requires c κs = search needs
+round-requires : tie.Need-round-requires
+round-requires c κs = search needs
 
 returns : tie.Need-returns
 returns c =
     let u = c .before .before .before .before in
     let h = u .before .before .pre in
     let m = c .before .before .before .moved in
-    kernel-meets 221 65379 29377 36159 ordered kernel (p u) (x u) (2 ^ 26) (c .round-short .result) (h .0) (h .1) (h .2) (is u)
+    kernel-meets 221 65379 29377 36159 ordered kernel (p u) (x u) (2 ^ 26) (c .round .result) (h .0) (h .1) (h .2) (is u)
     (kernel-moved (withSign (ltb 0x8000 (p u)) (x u)) (m .result) (ap (λ (b : Bool). withSign b (x u) +ℤ pos (2 ^ 33)) (sym (sign-bit (p u) (number u))) ∙ m .ensures .0))
     (c .before .before .exp2-poly .ensures .0)
     (c .before .less .ensures ∙ ap (λ (y : ℕ). pos y -ℤ pos 58) (mod-eq-of-lt (let l = m .ensures .1 in let k : m .result / 2 ^ 28 < 64 = omega arith in k)))
     (c .before .less .ok)
-    (c .round-short .ensures)
+    (c .round .ensures)
 
 pub kernel-spec : {M : Type 1} → statement M
-kernel-spec = tie.close (tie.spec signed-requires units-requires moved-requires exp2-poly-requires add-round-short add-less less-requires round-short-requires returns)
+kernel-spec = tie.close (tie.spec signed-requires units-requires moved-requires exp2-poly-requires add-round add-less less-requires round-requires returns)

@@ -55,15 +55,15 @@ mul-apart c = search needs
 apart-requires : tie.Need-apart-requires
 apart-requires c κs = search needs
 
-mul-round-short : tie.Need-mul-round-short
-mul-round-short c =
+mul-round : tie.Need-mul-round
+mul-round c =
     let a = c .before .before in
     let few = a .before .before .before .before .decode .ensures .few in
     let small : c .before .if3 .scale ≤ 2 ^ 28 = ⊎-elim (λ w. omega arith) (λ w. omega arith) (c .before .if3 .came) in
     fits-of-lt (lt-of-le-of-lt (product (2 ^ 35) (2 ^ 28) (omega arith) small) (lit< tt))
 
-round-short-requires : tie.Need-round-short-requires
-round-short-requires c κs = let k = mul-round-short c in omega arith
+round-requires : tie.Need-round-requires
+round-requires c κs = search needs
 
 signed-requires : tie.Need-signed-requires
 signed-requires c κs = search needs
@@ -76,7 +76,7 @@ returns-3 c =
     let l = a .before in
     let d = l .before .before .before in
     let scale : s .scale ≡ cond (ltb (d .decode .result .power * 2 ^ 30 + l .ln-poly .result) (2 ^ 30 * 28)) 186065280 186065279 = ⊎-elim (λ w. rw (w .0 .taken) (w .1)) (λ w. rw (w .0 .left) (w .1)) (s .came) in
-    at-plus logarithmic (c .before .round-short .result) (omega arith) (omega arith) (d .decode .ensures) (l .ln-poly .ensures .0) (a .apart .ensures) (rw scale at (c .before .round-short .ensures)) (c .signed .ensures)
+    at-plus logarithmic (c .before .round .result) (omega arith) (omega arith) (d .decode .ensures) (l .ln-poly .ensures .0) (a .apart .ensures) (rw scale at (c .before .round .ensures)) (c .signed .ensures)
 
 pub ln-spec : {M : Type 1} → statement M
 ln-spec =
@@ -93,7 +93,7 @@ ln-spec =
     mul-negative
     mul-apart
     apart-requires
-    mul-round-short
-    round-short-requires
+    mul-round
+    round-requires
     signed-requires
     returns-3)

@@ -1,8 +1,9 @@
 -- `logarithm::math::log2::log2` meets its contract: no logarithm where the number is not above zero, and else row 4's.
 use native.Mathlib.Omega.{arith}
 use borrow.Author.Needs.{needs}
-use Prim.Native.Nat.{_*_, _^_}
-use mathlib.Core.Path.{refl}
+use Prim.Native.Nat.{_*_, _%_, _^_}
+use mathlib.Core.Path.{_≡_, refl}
+use native.Mathlib.Nat.{mod-eq-of-lt}
 use lib.IntN.{pos}
 use Rattle.posit.specs.Rounding.{over}
 use Rattle.logarithm.specs.Log2.{poly, logarithm, otherwise, row}
@@ -49,8 +50,8 @@ mul-apart c = search needs
 apart-requires : tie.Need-apart-requires
 apart-requires c κs = search needs
 
-round-short-requires : tie.Need-round-short-requires
-round-short-requires c κs = search needs
+round-requires : tie.Need-round-requires
+round-requires c κs = search needs
 
 signed-requires : tie.Need-signed-requires
 signed-requires c κs = search needs
@@ -60,7 +61,8 @@ unfolding row
 returns-3 c =
     let l = c .before .before .before in
     let d = l .before .before .before in
-    at-plus logarithmic (c .before .round-short .result) (omega arith) (omega arith) (d .decode .ensures) (l .log2-poly .ensures .0) (c .before .before .apart .ensures) (c .before .round-short .ensures) (c .signed .ensures)
+    let w : d .decode .result .power % 64 ≡ d .decode .result .power = mod-eq-of-lt (let h = d .decode .ensures .few in omega arith) in
+    at-plus logarithmic (c .before .round .result) (omega arith) (omega arith) (rw w (d .decode .ensures)) (l .log2-poly .ensures .0) (c .before .before .apart .ensures) (c .before .round .ensures) (c .signed .ensures)
 
 pub log2-spec : {M : Type 1} → statement M
 log2-spec =
@@ -77,6 +79,6 @@ log2-spec =
     mul-negative
     mul-apart
     apart-requires
-    round-short-requires
+    round-requires
     signed-requires
     returns-3)
