@@ -3,3 +3,4 @@ pub mod Whole
 pub mod Sizes
 pub mod Signs
 pub mod Straight
+pub mod Sweep

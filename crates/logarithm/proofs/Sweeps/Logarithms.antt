@@ -4,7 +4,7 @@ use mathlib.Core.Bool.{Bool}
 use lib.Dec.{T, ltb, lit<}
 use Rattle.logarithm.specs.Log2 as log2
 use Rattle.logarithm.specs.Ln as ln
-use Rattle.logarithm.proofs.Sweep.{all, at}
+use Rattle.rows.proofs.Sweep.{all, at}
 
 abbrev below : (ℕ → ℕ) → ℕ → ℕ → Bool
 below f bound h = ltb (f h) bound
