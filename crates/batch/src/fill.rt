@@ -3,7 +3,7 @@ ghost use mathlib.Core.Path.{_≡_};
 ghost use Prim.Native.Nat.{_+_, _≤_, min};
 ghost use lib.ListN.{length, take};
 ghost use lib.Seq.{paste};
-ghost use Rattle.p16e1.specs.Functions.{known, answerOf};
+ghost use Rattle.p16e1.specs.Functions.{known};
 ghost use Rattle.batch.specs.Batch.{answers, isNar, narsIn};
 ghost use mathlib.Core.Bool.{true};
 
@@ -23,23 +23,12 @@ pub fn fill(function: u16, input: &[u16], output: &mut [u16], start: usize, n: u
     let mut j: usize = 0;
     while j < n {
         let at = start + j;
-        let a = answer(function, input[at]);
+        let a = p16e1::known_answer(function, input[at]);
         output[at] = a;
         nars += nar_bit(a);
         j += 1;
     }
     nars
-}
-
-// The answer of a known function.
-fn answer(function: u16, p: u16) -> u16
-    requires { ⌜ known function ≡ true ⌝ }
-    ensures { λ r. ⌜ r ≡ answerOf function p ⌝ }
-{
-    let p16e1::Answered::Pattern(r) = p16e1::answer(function, p) else {
-        return 0;
-    };
-    r
 }
 
 fn nar_bit(a: u16) -> usize

@@ -27,10 +27,7 @@ pub fn batch(
     ensures { λ r. ⌜ r ≡ batchedOf function (now (input .entry)) (length (now (output .entry))) start limit ⌝ }
     ensures { λ r. ⌜ now (output .exit) ≡ outputOf function (now (input .entry)) (now (output .entry)) start limit ⌝ }
 {
-    if function < 1 {
-        return refused(start, Refusal::Function);
-    }
-    if 10 < function {
+    if !p16e1::is_known(function) {
         return refused(start, Refusal::Function);
     }
     if output.len() < input.len() {

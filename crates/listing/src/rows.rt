@@ -61,19 +61,8 @@ fn write_row(
 {
     let mut i: usize = 0;
     while i < patterns {
-        let a = answer(function, number_at(input, from + 2 * i));
+        let a = p16e1::known_answer(function, number_at(input, from + 2 * i));
         put_number(output, to + 2 * i, a);
         i += 1;
     }
-}
-
-// The answer of a known function.
-fn answer(function: u16, p: u16) -> u16
-    requires { ⌜ known function ≡ true ⌝ }
-    ensures { λ r. ⌜ r ≡ answerOf function p ⌝ }
-{
-    let p16e1::Answered::Pattern(r) = p16e1::answer(function, p) else {
-        return 0;
-    };
-    r
 }

@@ -2,7 +2,6 @@
 ghost use mathlib.Core.Path.{_≡_};
 ghost use Prim.Native.Nat.{_+_, _*_, _≤_};
 ghost use lib.ListN.{length};
-ghost use Rattle.p16e1.specs.Functions.{known};
 ghost use Rattle.listing.specs.Numbers.{numbersAt};
 ghost use Rattle.listing.specs.Order.{sectionRefusal, allKnown};
 ghost use Rattle.listing.specs.Outcome.{sectionsOf};
@@ -84,22 +83,10 @@ fn all_known(bytes: &[u8], count: usize) -> bool
 {
     let mut i: usize = 0;
     while i < count {
-        if !is_known(number_at(bytes, 2 + 2 * i)) {
+        if !p16e1::is_known(number_at(bytes, 2 + 2 * i)) {
             return false;
         }
         i += 1;
-    }
-    true
-}
-
-fn is_known(function: u16) -> bool
-    ensures { λ r. ⌜ r ≡ known function ⌝ }
-{
-    if function < 1 {
-        return false;
-    }
-    if 10 < function {
-        return false;
     }
     true
 }

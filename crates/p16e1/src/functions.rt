@@ -1,5 +1,7 @@
 // The ten functions by their numbers, for whoever is told by a number which one to take.
-ghost use Rattle.p16e1.specs.Functions.{Answers};
+ghost use mathlib.Core.Path.{_≡_};
+ghost use mathlib.Core.Bool.{true};
+ghost use Rattle.p16e1.specs.Functions.{known, Answers, answerOf};
 
 pub enum Answered {
     Pattern(u16),
@@ -23,4 +25,25 @@ pub fn answer(function: u16, p: u16) -> Answered
         10 => Answered::Pattern(arc::acos_pi(p)),
         _ => Answered::Unknown,
     }
+}
+
+// Whether a function has that number.
+pub fn is_known(function: u16) -> bool
+    ensures { λ r. ⌜ r ≡ known function ⌝ }
+{
+    match function {
+        1..=10 => true,
+        _ => false,
+    }
+}
+
+// The answer of a known function, for batch and listing, which refuse the others first.
+pub fn known_answer(function: u16, p: u16) -> u16
+    requires { ⌜ known function ≡ true ⌝ }
+    ensures { λ r. ⌜ r ≡ answerOf function p ⌝ }
+{
+    let Answered::Pattern(r) = answer(function, p) else {
+        return 0;
+    };
+    r
 }

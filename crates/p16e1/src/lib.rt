@@ -3,3 +3,5 @@ mod functions;
 
 pub use functions::Answered;
 pub use functions::answer;
+pub use functions::is_known;
+pub use functions::known_answer;

@@ -28,14 +28,14 @@ loop-holds c =
 add-at : tie.Need-add-at Inv-loop μ-loop
 add-at c = search needs
 
-mul-answer : tie.Need-mul-answer Inv-loop μ-loop
-mul-answer c = search needs
+mul-known-answer : tie.Need-mul-known-answer Inv-loop μ-loop
+mul-known-answer c = search needs
 
-shared-slice-read-answer : tie.Need-shared-slice-read-answer Inv-loop μ-loop
-shared-slice-read-answer c = search needs
+shared-slice-read-known-answer : tie.Need-shared-slice-read-known-answer Inv-loop μ-loop
+shared-slice-read-known-answer c = search needs
 
-answer-requires : tie.Need-answer-requires Inv-loop μ-loop
-answer-requires c κs = search needs
+known-answer-requires : tie.Need-known-answer-requires Inv-loop μ-loop
+known-answer-requires c κs = search needs
 
 mul-output : tie.Need-mul-output Inv-loop μ-loop
 mul-output c = search needs
@@ -81,9 +81,9 @@ fill-spec =
     μ-loop
     loop-holds
     add-at
-    mul-answer
-    shared-slice-read-answer
-    answer-requires
+    mul-known-answer
+    shared-slice-read-known-answer
+    known-answer-requires
     mul-output
     slice-write-output
     nar-bit-requires

@@ -32,8 +32,8 @@ add-number-at c = search needs
 number-at-requires : tie.Need-number-at-requires Inv-loop μ-loop
 number-at-requires c κs = search needs
 
-answer-requires : tie.Need-answer-requires Inv-loop μ-loop
-answer-requires c κs = search needs
+known-answer-requires : tie.Need-known-answer-requires Inv-loop μ-loop
+known-answer-requires c κs = search needs
 
 mul-put-number : tie.Need-mul-put-number Inv-loop μ-loop
 mul-put-number c = search needs
@@ -72,7 +72,7 @@ write-row-spec =
     mul-number-at
     add-number-at
     number-at-requires
-    answer-requires
+    known-answer-requires
     mul-put-number
     add-put-number
     put-number-requires

@@ -2,10 +2,10 @@
 use mathlib.Core.Path.{_≡_, subst}
 use mathlib.Core.Bool.{false}
 use borrow.Author.Needs.{needs}
 use Rattle.p16e1.specs.Functions.{known, Answers}
 use Rattle.p16e1.proofs.ByNumber.{answer-is}
-use Rattle.batch.proofs.fill.answer.Statement.{statement}
-use Rattle.batch.proofs.fill.answer.Tie as tie
+use Rattle.p16e1.proofs.functions.known_answer.Statement.{statement}
+use Rattle.p16e1.proofs.functions.known_answer.Tie as tie
 
 answer-requires : tie.Need-answer-requires
 answer-requires c κs = search needs
@@ -28,5 +28,5 @@ returns-2 c =
     let a = d .before .args in
     answer-is (a .function) (a .p) _ (subst (Answers (a .function) (a .p)) (c .before .r .given .1) (d .answer .ensures) .1)
 
-pub answer-spec : {M : Type 1} → statement M
-answer-spec = tie.close (tie.spec answer-requires enum-known-r enum-told returns returns-2)
+pub known-answer-spec : {M : Type 1} → statement M
+known-answer-spec = tie.close (tie.spec answer-requires enum-known-r enum-told returns returns-2)
