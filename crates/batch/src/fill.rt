@@ -23,7 +23,7 @@ pub fn fill(function: u16, input: &[u16], output: &mut [u16], start: usize, n: u
     let mut j: usize = 0;
     while j < n {
         let at = start + j;
-        let a = p16e1::known_answer(function, input[at]);
+        let a = p16e1::answer_or_nar(function, input[at]);
         output[at] = a;
         nars += nar_bit(a);
         j += 1;

@@ -61,7 +61,7 @@ fn write_row(
 {
     let mut i: usize = 0;
     while i < patterns {
-        let a = p16e1::known_answer(function, number_at(input, from + 2 * i));
+        let a = p16e1::answer_or_nar(function, number_at(input, from + 2 * i));
         put_number(output, to + 2 * i, a);
         i += 1;
     }

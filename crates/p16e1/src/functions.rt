@@ -1,6 +1,6 @@
 // The ten functions by their numbers, for whoever is told by a number which one to take.
 ghost use mathlib.Core.Path.{_≡_};
-ghost use mathlib.Core.Bool.{true};
+ghost use mathlib.Core.Bool.{cond};
 ghost use Rattle.p16e1.specs.Functions.{known, Answers, answerOf};
 
 pub enum Answered {
@@ -37,13 +37,12 @@ pub fn is_known(function: u16) -> bool
     }
 }
 
-// The answer of a known function, for batch and listing, which refuse the others first.
-pub fn known_answer(function: u16, p: u16) -> u16
-    requires { ⌜ known function ≡ true ⌝ }
-    ensures { λ r. ⌜ r ≡ answerOf function p ⌝ }
+// The answer of the function with that number, and NaR where there is none, for batch and listing, which refuse that first.
+pub fn answer_or_nar(function: u16, p: u16) -> u16
+    ensures { λ r. ⌜ r ≡ cond (known function) (answerOf function p) 0x8000 ⌝ }
 {
-    let Answered::Pattern(r) = answer(function, p) else {
-        return 0;
+    let Answered::Pattern(a) = answer(function, p) else {
+        return 0x8000;
     };
-    r
+    a
 }

@@ -3,5 +3,5 @@ mod functions;
 
 pub use functions::Answered;
 pub use functions::answer;
+pub use functions::answer_or_nar;
 pub use functions::is_known;
-pub use functions::known_answer;

@@ -28,14 +28,14 @@ loop-holds c =
 add-at : tie.Need-add-at Inv-loop μ-loop
 add-at c = search needs
 
-mul-known-answer : tie.Need-mul-known-answer Inv-loop μ-loop
-mul-known-answer c = search needs
+mul-answer-or-nar : tie.Need-mul-answer-or-nar Inv-loop μ-loop
+mul-answer-or-nar c = search needs
 
-shared-slice-read-known-answer : tie.Need-shared-slice-read-known-answer Inv-loop μ-loop
-shared-slice-read-known-answer c = search needs
+shared-slice-read-answer-or-nar : tie.Need-shared-slice-read-answer-or-nar Inv-loop μ-loop
+shared-slice-read-answer-or-nar c = search needs
 
-known-answer-requires : tie.Need-known-answer-requires Inv-loop μ-loop
-known-answer-requires c κs = search needs
+answer-or-nar-requires : tie.Need-answer-or-nar-requires Inv-loop μ-loop
+answer-or-nar-requires c κs = search needs
 
 mul-output : tie.Need-mul-output Inv-loop μ-loop
 mul-output c = search needs
@@ -57,7 +57,9 @@ loop-less c = search needs
 
 loop-again : tie.Need-loop-again Inv-loop μ-loop
 loop-again c =
-    let a = c .before .before .before .before .before .before .before .args in
+    let first = c .before .before .before .before .before .before .before in
+    let a = first .args in
+    let e = (rw (first .pre .0) at (c .before .answer-or-nar .ensures)) in
     let j = c .before .before .before .before .loop .j in
     let inside : a .start + j < length (now (a .input)) = omega arith in (
       omega arith,
@@ -81,9 +83,9 @@ fill-spec =
     μ-loop
     loop-holds
     add-at
-    mul-known-answer
-    shared-slice-read-known-answer
-    known-answer-requires
+    mul-answer-or-nar
+    shared-slice-read-answer-or-nar
+    answer-or-nar-requires
     mul-output
     slice-write-output
     nar-bit-requires

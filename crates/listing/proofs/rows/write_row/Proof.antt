@@ -32,8 +32,8 @@ add-number-at c = search needs
 number-at-requires : tie.Need-number-at-requires Inv-loop μ-loop
 number-at-requires c κs = search needs
 
-known-answer-requires : tie.Need-known-answer-requires Inv-loop μ-loop
-known-answer-requires c κs = search needs
+answer-or-nar-requires : tie.Need-answer-or-nar-requires Inv-loop μ-loop
+answer-or-nar-requires c κs = search needs
 
 mul-put-number : tie.Need-mul-put-number Inv-loop μ-loop
 mul-put-number c = search needs
@@ -53,7 +53,9 @@ loop-less c = search needs
 loop-again : tie.Need-loop-again Inv-loop μ-loop
 loop-again c =
     let l = c .before .before .before .before .before .before .before .loop in
-    let a = c .before .before .before .before .before .before .before .before .before .before .args in
+    let first = c .before .before .before .before .before .before .before .before .before .before in
+    let a = first .args in
+    let e = (rw (first .pre .0) at (c .before .before .before .before .answer-or-nar .ensures)) in
     (omega arith, search needs, cc (row-next (now (a .output)) (a .to) (a .function) (now (a .input)) (a .from) (l .i)))
 
 same-length : tie.Need-same-length Inv-loop μ-loop
@@ -72,7 +74,7 @@ write-row-spec =
     mul-number-at
     add-number-at
     number-at-requires
-    known-answer-requires
+    answer-or-nar-requires
     mul-put-number
     add-put-number
     put-number-requires
