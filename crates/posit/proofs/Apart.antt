@@ -1,6 +1,6 @@
 -- s - n in a signed word of 32 bits, below zero or not.
 use Prim.Native.Nat.{ℕ, suc, _-_, _^_, _≤_, _<_}
-use mathlib.Core.Path.{_≡_, _∙_, ap, subst⁻¹, sym}
+use mathlib.Core.Path.{_≡_, _∙_, ap, subst⁻¹}
 use native.Mathlib.Omega.{arith}
 use native.Mathlib.Decide.{decLt}
 use borrow.Author.Tests.{lt-ltb, le-ltb}

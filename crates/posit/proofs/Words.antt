@@ -1,5 +1,5 @@
 -- f / 2 ^ 63 * 2 ^ s with one exponent bit: x is the exponent bit and then the fraction. Cutting x to the t bits that come
--- after the regime gives the pattern of 17 bits, and from it the answer.
+-- after the regime gives the pattern of 17 bits, and from it the answer; the code keeps 48 bits more, and drops the rest.
 use Prim.Native.Nat.{ℕ, suc, _+_, _-_, _*_, _/_, _%_, _^_, _≤_, _<_}
 use mathlib.Core.Path.{_≡_, refl, _∙_, subst, subst⁻¹, sym, ap}
 use mathlib.Core.Logic.{⊎-elim}
@@ -7,7 +7,6 @@ use native.Mathlib.Omega.{arith}
 use native.Mathlib.Nat.{mod-lt, mul-assoc, mul-mod-left, zero-mul, zero-mod, le-mul-of-pos-right, eq-zero-or-pos}
 use lib.Pow.{pow-pos, pow-add, shr-lt, shr-shr, split, mod-pow-add, mod-mod-pow}
 use Rattle.posit.specs.Rounding.{ratio, Rounded}
-use Rattle.posit.proofs.Value.{mod-times}
 use Rattle.posit.proofs.Shapes.{index}
 use Rattle.posit.proofs.Regimes.{Layout}
 use Rattle.posit.proofs.Between.{floated-is, pattern-most, answer}
@@ -47,9 +46,6 @@ module _ (f s t b : ℕ) (top : 2 ^ 63 ≤ f) (fits : f < 2 ^ 64) (l : Layout (s
   one-place : 2 ^ 1 * 2 ^ (63 - t) ≡ 2 ^ (64 - t)
   one-place = let k = l .few in sym (pow-add 2 1 (63 - t)) ∙ ap (λ (i : ℕ). 2 ^ i) (let e : 1 + (63 - t) ≡ 64 - t = omega arith in e)
 
-  all-places : 2 ^ 64 ≡ 2 ^ (64 - t) * 2 ^ t
-  all-places = let k = l .few in ap (λ (i : ℕ). 2 ^ i) {x = 64} (let e : 64 ≡ 64 - t + t = omega arith in e) ∙ pow-add 2 (64 - t) t
-
   fits-tail : q < 2 ^ t
   fits-tail = let k = l .few in shr-lt t (64 - t) (subst (λ (i : ℕ). x < 2 ^ i) (let e : 64 ≡ t + (64 - t) = omega arith in e) (omega arith))
 
@@ -83,7 +79,7 @@ module _ (f s t b : ℕ) (top : 2 ^ 63 ≤ f) (fits : f < 2 ^ 64) (l : Layout (s
   off : (rest ≡ 0 → ⊥) → Rounded 1 16 (ratio (f * 2 ^ s) (2 ^ 93)) ((v + 1) / 2)
   off some = answers ((v + 1) / 2) (omega arith) (omega arith) (λ g z. absurd (some z)) (λ g. absurd (omega arith))
 
-  -- x without its last two bits, shifted down by k: 48 bits more than the pattern has, of which cut are left of them
+  -- x without its last two bits, shifted down by k: the tail of the pattern, q, and 48 bits after it, cut
   module _ (k : ℕ) (tail : k + t ≡ 14) where
     abbrev word : ℕ
     word = ((f - 2 ^ 63) / 4 + s % 2 * 2 ^ 61) / 2 ^ k

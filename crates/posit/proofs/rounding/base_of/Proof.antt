@@ -1,6 +1,5 @@
 -- `posit::rounding::base_of` meets its contract: both words are powers of two shifted down by k, and each branch is the side
 -- of `cond` that the test picks.
-use borrow.Author.Needs.{needs}
 use borrow.Author.Tests.{lt-ltb, le-ltb}
 use Prim.Native.Nat.{ℕ, _+_, _-_, _*_, _/_, _^_, _≤_, _<_}
 use mathlib.Core.Path.{_≡_, _∙_, ap}
