@@ -1,35 +1,80 @@
--- s - n in a signed word of 32 bits, below zero or not.
-use Prim.Native.Nat.{ℕ, suc, _-_, _^_, _≤_, _<_}
-use mathlib.Core.Path.{_≡_, _∙_, ap, subst⁻¹}
+-- The power of two that `round` computes: how far the natural numbers a and b are apart, below zero or not, what its tests
+-- say of them, and that nothing of it is lost in a signed word of 32 bits.
+use Prim.Native.Nat.{ℕ, zero, suc, _+_, _-_, _^_, _≤_, _<_}
+use mathlib.Core.Path.{_≡_, _∙_, ap, subst, subst⁻¹}
+use mathlib.Core.Bool.{true, false}
 use native.Mathlib.Omega.{arith}
 use native.Mathlib.Decide.{decLt}
-use borrow.Author.Tests.{lt-ltb, le-ltb}
-use lib.IntN.{ℤ, pos, negsuc, _-ℤ_}
-use mir.Syntax.{w32}
-use mir.Val.{toZ, ofZ, SFits}
-use mir.Facts.{toZ-ofZ, toZ-pos}
+use borrow.Author.Tests.{lt-ltb, le-ltb, ltb-true, ltb-false}
+use lib.Dec.{T}
+use lib.IntN.{ℤ, pos, negsuc, natAbs, _+ℤ_, _-ℤ_}
+use lib.Signed.{mag, ltZ}
 
-pub data Apart (s n : ℕ) : ℤ → Type 0 where
-  below : s < n → Apart s n (negsuc (n - suc s))
-  above : n ≤ s → Apart s n (pos (s - n))
+pub data Apart (a b : ℕ) : ℤ → Type 0 where
+  below : a < b → Apart a b (negsuc (b - suc a))
+  above : b ≤ a → Apart a b (pos (a - b))
 
-module _ (s n : ℕ) (small : s < 2 ^ 31) (few : suc n < 2 ^ 31) where
-  difference-low : s < suc n → toZ w32 s -ℤ pos (suc n) ≡ negsuc (suc n - suc s)
-  difference-low h = ap (λ (z : ℤ). z -ℤ pos (suc n)) (toZ-pos w32 small) ∙ rw (lt-ltb s (suc n) h)
+-- k - 137, and z less
+module _ (k : ℕ) where
+  low : (z : ℕ) → k < 137 → Apart k (137 + z) (pos k -ℤ pos 137 -ℤ pos z)
+  low zero h = subst⁻¹ (Apart k 137) (rw (lt-ltb k 137 h, lt-ltb 0 (suc (137 - suc k)) (omega arith)) (ap negsuc (omega arith))) (below h)
+  low (suc z) h = subst⁻¹ (Apart k (137 + suc z)) (rw (lt-ltb k 137 h) (ap negsuc (let e : suc (137 - suc k + z) ≡ 137 + suc z - suc k = omega arith in e))) (below (omega arith))
 
-  difference-high : suc n ≤ s → toZ w32 s -ℤ pos (suc n) ≡ pos (s - suc n)
-  difference-high h = ap (λ (z : ℤ). z -ℤ pos (suc n)) (toZ-pos w32 small) ∙ rw (le-ltb s (suc n) h)
-
-  pub fits : SFits w32 (toZ w32 s -ℤ pos (suc n))
-  fits = go (decLt s (suc n))
+  high : (z : ℕ) → 137 ≤ k → Apart k (137 + z) (pos k -ℤ pos 137 -ℤ pos z)
+  high zero h = subst⁻¹ (Apart k 137) (rw (le-ltb k 137 h) (ap pos (omega arith))) (above h)
+  high (suc z) h = go (decLt (k - 137) (suc z))
     where
-      go : Dec (s < suc n) → SFits w32 (toZ w32 s -ℤ pos (suc n))
-      go (yes h) = subst⁻¹ (λ (z : ℤ). SFits w32 z) (difference-low h) (record { sfits = omega arith })
-      go (no h) = subst⁻¹ (λ (z : ℤ). SFits w32 z) (difference-high (omega arith)) (record { sfits = omega arith })
+      go : Dec (k - 137 < suc z) → Apart k (137 + suc z) (pos k -ℤ pos 137 -ℤ pos (suc z))
+      go (yes l) = subst⁻¹ (Apart k (137 + suc z)) (rw (le-ltb k 137 h, lt-ltb (k - 137) (suc z) l) (ap negsuc (let e : suc z - suc (k - 137) ≡ 137 + suc z - suc k = omega arith in e))) (below (omega arith))
+      go (no l) = subst⁻¹ (Apart k (137 + suc z)) (rw (le-ltb k 137 h, le-ltb (k - 137) (suc z) (omega arith)) (ap pos (let e : k - 137 - suc z ≡ k - (137 + suc z) = omega arith in e))) (above (omega arith))
 
-  pub apart : Apart s (suc n) (toZ w32 (ofZ w32 (toZ w32 s -ℤ pos (suc n))))
-  apart = subst⁻¹ (Apart s (suc n)) (toZ-ofZ fits) (go (decLt s (suc n)))
+  pub apart : (z : ℕ) → Apart k (137 + z) (pos k -ℤ pos 137 -ℤ pos z)
+  apart z = go (decLt k 137)
     where
-      go : Dec (s < suc n) → Apart s (suc n) (toZ w32 s -ℤ pos (suc n))
-      go (yes h) = subst⁻¹ (Apart s (suc n)) (difference-low h) (below h)
-      go (no h) = subst⁻¹ (Apart s (suc n)) (difference-high (omega arith)) (above (omega arith))
+      go : Dec (k < 137) → Apart k (137 + z) (pos k -ℤ pos 137 -ℤ pos z)
+      go (yes h) = low z h
+      go (no h) = high z (omega arith)
+
+  pub first-fits : k < 2 ^ 30 → mag (pos k -ℤ pos 137) < 2 ^ 31
+  first-fits h = go (decLt k 137)
+    where
+      go : Dec (k < 137) → mag (pos k -ℤ pos 137) < 2 ^ 31
+      go (yes l) = rw (lt-ltb k 137 l) (omega arith)
+      go (no l) = rw (le-ltb k 137 (omega arith)) (omega arith)
+
+module _ (a b : ℕ) where
+  pub apart-fits : (p : ℤ) → Apart a b p → a < 2 ^ 30 → b < 2 ^ 30 → mag p < 2 ^ 31
+  apart-fits p (below h) l g = omega arith
+  apart-fits p (above h) l g = omega arith
+
+  pub from-tiny : (p : ℤ) → Apart a b p → ltZ (negsuc 28) p ≡ true → b < a + 29
+  from-tiny p (below h) t = let k = ltb-true (b - suc a) 28 t in omega arith
+  from-tiny p (above h) t = omega arith
+
+  pub to-huge : (p : ℤ) → Apart a b p → ltZ p (pos 28) ≡ true → a < b + 28
+  to-huge p (below h) t = omega arith
+  to-huge p (above h) t = let k = ltb-true (a - b) 28 t in omega arith
+
+  pub is-tiny : (p : ℤ) → Apart a b p → ltZ (negsuc 28) p ≡ false → a + 29 ≤ b
+  is-tiny p (below h) t = let k = ltb-false (b - suc a) 28 t in omega arith
+  is-tiny p (above h) t = absurd (subst T t tt)
+
+  pub is-huge : (p : ℤ) → Apart a b p → ltZ p (pos 28) ≡ false → b + 28 ≤ a
+  is-huge p (below h) t = absurd (subst T t tt)
+  is-huge p (above h) t = let k = ltb-false (a - b) 28 t in omega arith
+
+  pub minus : (p : ℤ) → Apart a b p → ltZ p (pos 0) ≡ true → a < b
+  minus p (below h) t = h
+  minus p (above h) t = absurd (let k = ltb-true (a - b) 0 t in omega arith)
+
+  pub plus : (p : ℤ) → Apart a b p → ltZ p (pos 0) ≡ false → b ≤ a
+  plus p (below h) t = absurd (subst T t tt)
+  plus p (above h) t = h
+
+  pub power-few : (p : ℤ) → Apart a b p → b < a + 29 → a < b + 28 → mag p ≤ 27
+  power-few p (below h) l g = omega arith
+  power-few p (above h) l g = omega arith
+
+  pub raised : (p : ℤ) → Apart a b p → b ≤ a + 30 → natAbs (p +ℤ pos 30) ≡ a + 30 - b
+  raised p (below h) l = rw (le-ltb 30 (suc (b - suc a)) (omega arith)) (omega arith)
+  raised p (above h) l = omega arith

@@ -1,13 +1,13 @@
 -- How a pattern of 17 bits is laid out by its regime r, counted from the smallest: t bits after the regime, and b, the
 -- pattern with only zeros there.
-use Prim.Native.Nat.{ℕ, suc, _+_, _-_, _^_, _≤_, _<_}
-use mathlib.Core.Path.{_≡_, ap, refl}
+use Prim.Native.Nat.{ℕ, suc, _+_, _-_, _/_, _^_, _≤_, _<_}
+use mathlib.Core.Path.{_≡_, ap}
 use mathlib.Core.Bool.{cond}
 use native.Mathlib.Omega.{arith}
 use native.Mathlib.Nat.{pow-suc}
-use native.Mathlib.Decide.{decLt}
-use borrow.Author.Tests.{lt-ltb, le-ltb}
-use lib.Dec.{ltb}
+use borrow.Author.Tests.{le-ltb}
+use lib.IntN.{ℤ, pos, negsuc, natAbs, _+ℤ_}
+use lib.Signed.{mag, ltZ}
 use lib.Pow.{pow-mono}
 use Rattle.posit.proofs.Run.{onesAt}
 use Rattle.posit.proofs.Shapes.{Shape, zs, os, ones-sum}
@@ -36,18 +36,12 @@ high-half r t b lo hi et eb =
     λ q. (let a = ones-sum (15 - t) t q in let w : 2 ^ (15 - t + suc t) ≡ 2 ^ 16 = ap (λ (k : ℕ). 2 ^ k) {y = 16} (omega arith) in omega arith) in
     record { some = omega arith; few = omega arith; from = omega arith; to = omega arith; shape = λ q. os (15 - t) (omega arith) (omega arith) (sum q) (omega arith) }
 
--- the layout by k, how many bits of the run follow its first
-module _ (r k : ℕ) (lo : 1 ≤ r) (hi : r ≤ 28) (follow : k ≡ cond (ltb r 15) (14 - r) (r - 15)) where
-  pub run-most : k ≤ 13
-  run-most = go (decLt r 15)
-    where
-      go : Dec (r < 15) → k ≤ 13
-      go (yes h) = let e = (rw (lt-ltb r 15 h) at follow) in omega arith
-      go (no h) = let e = (rw (le-ltb r 15 (let g : 15 ≤ r = omega arith in g)) at follow) in omega arith
-
-  pub laid : Layout r (14 - k) (cond (ltb r 15) (2 ^ r) (2 ^ 16 - 2 ^ (30 - r)))
-  laid = go (decLt r 15)
-    where
-      go : Dec (r < 15) → Layout r (14 - k) (cond (ltb r 15) (2 ^ r) (2 ^ 16 - 2 ^ (30 - r)))
-      go (yes h) = let e = (rw (lt-ltb r 15 h) at follow) in rw (lt-ltb r 15 h) (low-half r (14 - k) (2 ^ r) lo h (omega arith) refl)
-      go (no h) = let g : 15 ≤ r = omega arith in let e = (rw (le-ltb r 15 g) at follow) in rw (le-ltb r 15 g) (high-half r (14 - k) (2 ^ 16 - 2 ^ (30 - r)) g hi (omega arith) refl)
+-- the layout for a number whose power of two is p
+pub laid : (p : ℤ) → mag p ≤ 27
+    → Layout (natAbs (p +ℤ pos 30) / 2) (14 - mag p / 2) (cond (ltZ p (pos 0)) (2 ^ (14 - mag p / 2)) (2 ^ 16 - 2 ^ (15 - mag p / 2)))
+laid (pos j) h =
+    rw (le-ltb j 0 (omega arith))
+    (high-half ((j + 30) / 2) (14 - j / 2) (2 ^ 16 - 2 ^ (15 - j / 2)) (omega arith) (omega arith) (omega arith) (ap (λ (k : ℕ). 2 ^ 16 - 2 ^ k) (let e : 15 - j / 2 ≡ 30 - (j + 30) / 2 = omega arith in e)))
+laid (negsuc j) h =
+    rw (le-ltb 30 (suc j) (omega arith))
+    (low-half ((30 - suc j) / 2) (14 - j / 2) (2 ^ (14 - j / 2)) (omega arith) (omega arith) (omega arith) (ap (λ (k : ℕ). 2 ^ k) (let e : 14 - j / 2 ≡ (30 - suc j) / 2 = omega arith in e)))

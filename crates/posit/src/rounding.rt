@@ -3,16 +3,16 @@ ghost use mathlib.Core.Path.{_≡_};
 ghost use mathlib.Core.Bool.{cond};
 ghost use Prim.Native.Nat.{_-_, _*_, _/_, _%_, _^_, _≤_, _<_};
 ghost use lib.Dec.{ltb};
-ghost use lib.IntN.{pos};
+ghost use lib.IntN.{pos, natAbs, _+ℤ_};
+ghost use lib.Signed.{mag, ltZ};
 ghost use lib.Ieee.{up, down};
 ghost use Rattle.posit.specs.Rounding.{ratio, dyadic, Rounded, Rounds};
 
-// How many bits of the regime's run follow its first, for the power s, counted from -30.
-fn run_after(s: u32) -> u32
-    requires { ⌜ (2 ≤ s) × (s ≤ 57) ⌝ }
-    ensures { λ k. ⌜ k ≡ cond (ltb (s / 2) 15) (14 - s / 2) (s / 2 - 15) ⌝ }
+// How many bits of the regime's run follow its first, for a number whose power of two is p.
+fn run_after(p: i32) -> u32
+    ensures { λ k. ⌜ k ≡ mag p / 2 ⌝ }
 {
-    let half = (s as i32 - 30) >> 1;
+    let half = p >> 1;
     if half < 0 {
         (-1 - half) as u32
     } else {
@@ -20,29 +20,30 @@ fn run_after(s: u32) -> u32
     }
 }
 
-// The pattern of 17 bits with the regime of s and only zeros after it, 48 places up. k bits of the run follow its first.
-fn base_of(s: u32, k: u32) -> u64
-    requires { ⌜ (2 ≤ s) × (s ≤ 57) × (k ≡ cond (ltb (s / 2) 15) (14 - s / 2) (s / 2 - 15)) ⌝ }
-    ensures { λ p. ⌜ p ≡ cond (ltb (s / 2) 15) (2 ^ (s / 2)) (2 ^ 16 - 2 ^ (30 - s / 2)) * 2 ^ 48 ⌝ }
+// The pattern of 17 bits with the regime of p and only zeros after it, 48 places up.
+fn base_of(p: i32, k: u32) -> u64
+    requires { ⌜ k ≤ 13 ⌝ }
+    ensures { λ b. ⌜ b ≡ cond (ltZ p (pos 0)) (2 ^ (14 - k)) (2 ^ 16 - 2 ^ (15 - k)) * 2 ^ 48 ⌝ }
 {
-    if s < 30 {
+    if p < 0 {
         0x4000_0000_0000_0000 >> k
     } else {
         0xFFFF_FFFF_FFFF_FFFF - ((0x8000_0000_0000_0000 >> k) - 1)
     }
 }
 
-// f / 2^63 * 2^s in units of 2^-30, for f with its top bit set and a power within the range of the posits of 17 bits; rest
-// tells whether anything stands in f's lowest 15 bits, of which some are dropped here. x is the exponent bit and then the
-// fraction; v is the number as a pattern whose last 49 bits the answer has not. What is added to v carries into the answer
-// above the dividing number, and on it where the answer would be odd.
-fn place(f: u64, s: u32, rest: bool) -> u16
-    requires { ⌜ (2 ^ 63 ≤ f) × (2 ≤ s) × (s ≤ 57) × (rest ≡ ltb 0 (f % 2 ^ 15)) ⌝ }
-    ensures { λ u. ⌜ Rounded 1 16 (ratio (f * 2 ^ s) (2 ^ 93)) u ⌝ }
+// f / 2^63 * 2^p, for f with its top bit set and p from -28 to 27; rest tells whether anything stands in f's lowest 15 bits,
+// of which some are dropped here. x is the exponent bit and then the fraction; v is the number as a pattern whose last 49
+// bits the answer has not. What is added to v carries into the answer above the dividing number, and on it where the answer
+// would be odd.
+fn place(f: u64, p: i32, rest: bool) -> u16
+    requires { ⌜ (2 ^ 63 ≤ f) × (mag p ≤ 27) × (rest ≡ ltb 0 (f % 2 ^ 15)) ⌝ }
+    ensures { λ u. ⌜ Rounded 1 16 (ratio (f * 2 ^ natAbs (p +ℤ pos 30)) (2 ^ 93)) u ⌝ }
 {
-    let k = run_after(s);
-    let x = (f - 0x8000_0000_0000_0000) / 4 + ((s % 2) as u64) * 0x2000_0000_0000_0000;
-    let v = base_of(s, k) + (x >> k);
+    let k = run_after(p);
+    let x = (f - 0x8000_0000_0000_0000) / 4
+        + (((p + 30) as u32 % 2) as u64) * 0x2000_0000_0000_0000;
+    let v = base_of(p, k) + (x >> k);
     let more = if rest { 1 } else { (v >> 49) % 2 };
     ((v + 0xFFFF_FFFF_FFFF + more) >> 49) as u16
 }
@@ -75,8 +76,7 @@ fn offset(e: i32) -> u32
     (e + 200) as u32
 }
 
-// The posit that the rounding rule gives for m * 2^e. s is the number's power of two, counted from -201: at 173 that of the
-// smallest posit, and at 229 that of the largest.
+// The posit that the rounding rule gives for m * 2^e. p is the number's power of two, or past -29 and 28 on the same side.
 pub fn round(m: u64, e: i32) -> u16
     ensures { λ u. ⌜ Rounds 1 16 (dyadic (pos m) e) u ⌝ }
 {
@@ -84,12 +84,12 @@ pub fn round(m: u64, e: i32) -> u16
         return 0;
     }
     let z = u64::leading_zeros(m);
-    let s = offset(e) + 64 - z;
-    if 172 < s {
-        if s < 229 {
+    let p = offset(e) as i32 - 137 - z as i32;
+    if -29 < p {
+        if p < 28 {
             let f = m << z;
-            return place(f, s - 171, below(m, f));
+            return place(f, p, below(m, f));
         }
     }
-    if s < 173 { 1 } else { 0x7fff }
+    if p < 0 { 1 } else { 0x7fff }
 }

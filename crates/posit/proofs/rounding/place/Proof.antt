@@ -1,41 +1,69 @@
 -- `posit::rounding::place` meets its contract: nothing wraps, and what is added is that of `Words`, by what stands in the
 -- lowest 15 bits.
 use borrow.Author.Needs.{needs}
-use borrow.Author.Tests.{ltb-true, ltb-false}
-use Prim.Native.Nat.{ℕ, _+_, _-_, _*_, _/_, _%_, _^_, _≤_, _<_}
-use mathlib.Core.Path.{_≡_, _∙_, sym}
+use borrow.Author.Tests.{le-ltb, ltb-true, ltb-false}
+use Prim.Native.Nat.{ℕ, suc, _+_, _-_, _*_, _/_, _%_, _^_, _≤_, _<_}
+use mathlib.Core.Path.{_≡_, _∙_, ap, refl, sym, subst⁻¹}
 use mathlib.Core.Logic.{⊎-elim}
 use mathlib.Core.Bool.{cond}
 use native.Mathlib.Omega.{arith}
-use lib.Dec.{ltb}
-use mir.Facts.{fits-of-lt}
-use Rattle.posit.proofs.Regimes.{Layout, run-most, laid}
+use lib.Dec.{T}
+use lib.IntN.{ℤ, pos, negsuc, natAbs, _+ℤ_}
+use lib.Signed.{mag, ltZ, nonNeg}
+use mir.Syntax.{w32}
+use mir.Val.{toZ, ofZ, SFits, Fits}
+use mir.Facts.{toZ-ofZ, fits-of-lt}
+use Rattle.posit.proofs.Regimes.{Layout, laid}
 use Rattle.posit.proofs.Words.{wide, wide-most, clear, gathered}
 use Rattle.posit.proofs.rounding.place.Statement.{statement}
 use Rattle.posit.proofs.rounding.place.Tie as tie
-use Rattle.posit.proofs.rounding.place.Reads as reads
-use Rattle.posit.proofs.rounding.place.Lts as lts
-use Rattle.posit.proofs.rounding.base_of.Reads as base-of-reads
-use Rattle.posit.proofs.rounding.run_after.Reads as run-after-reads
 
-module _ (c : lts.After-base-of (run-after-reads.Asked, run-after-reads.Learnt, base-of-reads.Asked, base-of-reads.Learnt) reads.Pre reads.Post) where
+-- p + 30, which is above zero, as it is read
+raised : (p : ℤ) → mag p ≤ 27 → p +ℤ pos 30 ≡ pos (natAbs (p +ℤ pos 30))
+raised (pos j) h = refl
+raised (negsuc j) h = rw (le-ltb 30 (suc j) (omega arith)) refl
+
+raised-few : (p : ℤ) → mag p ≤ 27 → natAbs (p +ℤ pos 30) ≤ 57
+raised-few (pos j) h = omega arith
+raised-few (negsuc j) h = rw (le-ltb 30 (suc j) (omega arith)) (omega arith)
+
+-- an argument that is signed goes by its bits
+module _ (c : tie.After-run-after) where
   abbrev f : ℕ
-  f = c .before .before .args .f
+  f = c .before .args .f
+
+  abbrev p : ℤ
+  p = c .before .args .p
 
   abbrev s : ℕ
-  s = c .before .before .args .s
+  s = natAbs (p +ℤ pos 30)
 
   abbrev k : ℕ
-  k = c .before .run-after .result
+  k = c .run-after .result
+
+  p-read : toZ w32 (ofZ w32 p) ≡ p
+  p-read = toZ-ofZ (c .before .fits .p)
+
+  run-is : k ≡ mag p / 2
+  run-is = c .run-after .ensures ∙ ap (λ (z : ℤ). mag z / 2) p-read
 
   few : k ≤ 13
-  few = run-most (s / 2) k (omega arith) (omega arith) (c .before .run-after .ensures)
+  few = let e = run-is in let h = c .before .pre .1 in omega arith
+
+  sum-read : toZ w32 (ofZ w32 p) +ℤ pos 30 ≡ pos s
+  sum-read = ap (λ (z : ℤ). z +ℤ pos 30) p-read ∙ raised p (c .before .pre .1)
+
+  sum-fits : SFits w32 (toZ w32 (ofZ w32 p) +ℤ pos 30)
+  sum-fits = subst⁻¹ (λ (z : ℤ). SFits w32 z) sum-read (record { sfits = let h = raised-few p (c .before .pre .1) in omega arith })
+
+  power-read : toZ w32 (ofZ w32 (toZ w32 (ofZ w32 p) +ℤ pos 30)) ≡ pos s
+  power-read = toZ-ofZ sum-fits ∙ sum-read
 
   abbrev b : ℕ
-  b = cond (ltb (s / 2) 15) (2 ^ (s / 2)) (2 ^ 16 - 2 ^ (30 - s / 2))
+  b = cond (ltZ p (pos 0)) (2 ^ (14 - k)) (2 ^ 16 - 2 ^ (15 - k))
 
   layout : Layout (s / 2) (14 - k) b
-  layout = laid (s / 2) k (omega arith) (omega arith) (c .before .run-after .ensures)
+  layout = subst⁻¹ (λ (j : ℕ). Layout (s / 2) (14 - j) (cond (ltZ p (pos 0)) (2 ^ (14 - j)) (2 ^ 16 - 2 ^ (15 - j)))) run-is (laid p (c .before .pre .1))
 
   tail : k + (14 - k) ≡ 14
   tail = omega (arith, few)
@@ -49,47 +77,60 @@ run-after-requires c κs = search needs
 sub-x : tie.Need-sub-x
 sub-x c = search needs
 
+add-x : tie.Need-add-x
+add-x c = sum-fits c
+
 cast-x : tie.Need-cast-x
-cast-x c = search needs
+cast-x c = subst⁻¹ (λ (z : ℤ). T (nonNeg z) × Fits w32 (natAbs z)) (power-read c) (tt, fits-of-lt (let h = raised-few (p c) (c .before .pre .1) in omega arith))
+
+cast-x-2 : tie.Need-cast-x-2
+cast-x-2 c = search needs
 
 mul-x : tie.Need-mul-x
 mul-x c = search needs
 
-add-x : tie.Need-add-x
-add-x c = search needs
+add-x-2 : tie.Need-add-x-2
+add-x-2 c = search needs
 
 base-of-requires : tie.Need-base-of-requires
-base-of-requires c κs = search needs
+base-of-requires c κs = few c
 
 cast-v : tie.Need-cast-v
 cast-v c = search needs
 
 shr-v : tie.Need-shr-v
-shr-v c = omega (arith, few c)
+shr-v c = omega (arith, few (c .before))
+
+-- the pattern, as it is computed
+wide-read : (c : tie.After-base-of) → c .base-of .result + ((f (c .before) - 2 ^ 63) / 4 + natAbs (toZ w32 (ofZ w32 (toZ w32 (ofZ w32 (p (c .before))) +ℤ pos 30))) % 2 * 2 ^ 61) / 2 ^ k (c .before) ≡ wide (f (c .before)) (s (c .before)) (14 - k (c .before)) (b (c .before)) (omega arith) (omega arith) (layout (c .before)) (k (c .before)) (tail (c .before))
+wide-read c =
+    let a = c .before in
+    (λ i. (c .base-of .ensures ∙ ap (λ (z : ℤ). cond (ltZ z (pos 0)) (2 ^ (14 - k a)) (2 ^ 16 - 2 ^ (15 - k a)) * 2 ^ 48) (p-read a)) i + ((f a - 2 ^ 63) / 4 + natAbs (power-read a i) % 2 * 2 ^ 61) / 2 ^ k a)
 
 add-v : tie.Need-add-v
-add-v c = fits-of-lt (let e = c .base-of .ensures in let m = most c in omega arith)
+add-v c = fits-of-lt (let e = wide-read c in let m = most (c .before) in omega arith)
 
 -- what is added is at most 1
 little : (c : tie.Joined1) → c .if1 .more ≤ 1
 little c = ⊎-elim (λ w. omega arith) (λ w. omega arith) (c .if1 .came)
 
 add-result : tie.Need-add-result
-add-result c = fits-of-lt (let e = c .before .base-of .ensures in let m = most (c .before) in omega arith)
+add-result c = fits-of-lt (let e = wide-read (c .before) in let m = most (c .before .before) in omega arith)
 
 add-result-2 : tie.Need-add-result-2
-add-result-2 c = fits-of-lt (let e = c .before .before .base-of .ensures in let m = most (c .before .before) in let l = little (c .before) in omega arith)
+add-result-2 c = fits-of-lt (let e = wide-read (c .before .before) in let m = most (c .before .before .before) in let l = little (c .before) in omega arith)
 
 cast-result : tie.Need-cast-result
-cast-result c = fits-of-lt (let e = c .before .before .base-of .ensures in let m = most (c .before .before) in let l = little (c .before) in omega arith)
+cast-result c = fits-of-lt (let e = wide-read (c .before .before) in let m = most (c .before .before .before) in let l = little (c .before) in omega arith)
 
 returns : tie.Need-returns
 returns c =
     let w = c .before .before in
-    let said = w .before .before .pre .3 in
+    let a = w .before in
+    let said = a .before .pre .2 in
     ⊎-elim
-    (λ d. rw (d .1, w .base-of .ensures) (gathered (f w) (s w) (14 - k w) (b w) (omega arith) (omega arith) (layout w) (k w) (tail w) (ltb-true 0 (f w % 2 ^ 15) (sym said ∙ d .0 .taken))))
-    (λ d. rw (d .1, w .base-of .ensures) (clear (f w) (s w) (14 - k w) (b w) (omega arith) (omega arith) (layout w) (k w) (tail w) (let z = ltb-false 0 (f w % 2 ^ 15) (sym said ∙ d .0 .left) in omega arith)))
+    (λ d. rw (d .1, wide-read w) (gathered (f a) (s a) (14 - k a) (b a) (omega arith) (omega arith) (layout a) (k a) (tail a) (ltb-true 0 (f a % 2 ^ 15) (sym said ∙ d .0 .taken))))
+    (λ d. rw (d .1, wide-read w) (clear (f a) (s a) (14 - k a) (b a) (omega arith) (omega arith) (layout a) (k a) (tail a) (let z = ltb-false 0 (f a % 2 ^ 15) (sym said ∙ d .0 .left) in omega arith)))
     (c .before .if1 .came)
 
 pub place-spec : {M : Type 1} → statement M
@@ -98,9 +139,11 @@ place-spec =
     (tie.spec
     run-after-requires
     sub-x
-    cast-x
-    mul-x
     add-x
+    cast-x
+    cast-x-2
+    mul-x
+    add-x-2
     base-of-requires
     cast-v
     shr-v
