@@ -1,7 +1,7 @@
 -- The power of two that `round` computes: how far the natural numbers a and b are apart, below zero or not, what its tests
 -- say of them, and that nothing of it is lost in a signed word of 32 bits.
 use Prim.Native.Nat.{ℕ, zero, suc, _+_, _-_, _^_, _≤_, _<_}
-use mathlib.Core.Path.{_≡_, _∙_, ap, subst, subst⁻¹}
+use mathlib.Core.Path.{_≡_, ap, subst, subst⁻¹}
 use mathlib.Core.Bool.{true, false}
 use native.Mathlib.Omega.{arith}
 use native.Mathlib.Decide.{decLt}

@@ -12,9 +12,12 @@ pub mod Laws
 pub mod Own
 pub mod Dyadic
 pub mod Fields
+pub mod Passing
+pub mod Decodings
 pub mod Nearest
 pub mod Regimes
 pub mod Between
 pub mod Words
 pub mod Apart
+pub mod Tops
 pub mod Far

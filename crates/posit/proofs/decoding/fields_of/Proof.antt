@@ -6,7 +6,7 @@ use mathlib.Core.Path.{_≡_, _∙_, sym, ap}
 use mathlib.Core.Logic.{⊎-elim}
 use native.Mathlib.Omega.{arith}
 use Rattle.posit.specs.Number.{magnitude}
-use Rattle.posit.proofs.Fields.{of-low, of-zero, decodes-as}
+use Rattle.posit.proofs.Decodings.{of-low, of-zero, decodes-as}
 use Rattle.posit.proofs.decoding.fields_of.Statement.{statement}
 use Rattle.posit.proofs.decoding.fields_of.Tie as tie
 

@@ -7,7 +7,7 @@ use native.Mathlib.Omega.{arith}
 use native.Mathlib.Nat.{eq-or-lt-of-le, lt-of-lt-of-le}
 use lib.Pow.{pow-mono, shl-lt}
 use Rattle.posit.specs.Number.{bit}
-use Rattle.posit.proofs.Fields.{Passed, none-passed, one-passed, all-passed}
+use Rattle.posit.proofs.Passing.{Passed, none-passed, one-passed, all-passed}
 use Rattle.posit.proofs.decoding.past_ones.Statement.{statement}
 use Rattle.posit.proofs.decoding.past_ones.Tie as tie
 

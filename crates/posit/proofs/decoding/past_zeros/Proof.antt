@@ -6,7 +6,7 @@ use native.Mathlib.Omega.{arith}
 use native.Mathlib.Nat.{le-refl, mul-le-mul}
 use native.Mathlib.Decide.{decLt}
 use lib.Pow.{pow-mono}
-use Rattle.posit.proofs.Fields.{Passed, none-passed, one-passed, all-passed}
+use Rattle.posit.proofs.Passing.{Passed, none-passed, one-passed, all-passed}
 use Rattle.posit.proofs.decoding.past_zeros.Statement.{statement}
 use Rattle.posit.proofs.decoding.past_zeros.Tie as tie
 

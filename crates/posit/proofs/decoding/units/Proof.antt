@@ -2,7 +2,7 @@
 use borrow.Author.Needs.{needs}
 use Prim.Native.Nat.{_+_, _/_, _%_}
 use native.Mathlib.Omega.{arith}
-use Rattle.posit.proofs.Fields.{scaled-back}
+use Rattle.posit.proofs.Decodings.{scaled-back}
 use Rattle.posit.proofs.decoding.units.Statement.{statement}
 use Rattle.posit.proofs.decoding.units.Tie as tie
 

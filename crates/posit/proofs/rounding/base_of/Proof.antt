@@ -1,6 +1,6 @@
 -- `posit::rounding::base_of` meets its contract: both words are powers of two shifted down by k, and each branch is the side
 -- of `cond` that the test picks.
-use Prim.Native.Nat.{ℕ, _+_, _-_, _*_, _/_, _^_, _≤_, _<_}
+use Prim.Native.Nat.{ℕ, _+_, _-_, _*_, _/_, _^_, _≤_}
 use mathlib.Core.Path.{_≡_, _∙_, ap, sym}
 use native.Mathlib.Omega.{arith}
 use lib.Pow.{pow-add, pow-mono, pow-pos, shl-shr}

@@ -1,19 +1,18 @@
 -- `posit::rounding::round` meets its contract: z is where m's top bit is, and each return is one of the cases of `Far`.
 use borrow.Author.Needs.{needs}
-use Prim.Native.Nat.{ℕ, suc, _+_, _-_, _*_, _%_, _^_, _≤_, _<_}
-use mathlib.Core.Path.{_≡_, _∙_, ap, sym, refl, subst, subst⁻¹}
+use Prim.Native.Nat.{ℕ, _+_, _-_, _*_, _%_, _^_, _≤_, _<_}
+use mathlib.Core.Path.{_≡_, _∙_, ap, refl, subst, subst⁻¹}
 use mathlib.Core.Logic.{_⊎_, inl, inr, ⊎-elim}
 use native.Mathlib.Omega.{arith}
-use native.Mathlib.Nat.{mod-eq-of-lt, mul-le-mul-left, mul-le-mul-right, mul-mod-left, mul-assoc}
-use native.Mathlib.Decide.{decLt}
-use lib.Count.{leadingZeros, leading-le, leading-top}
-use lib.IntN.{ℤ, pos, natAbs, _+ℤ_, _-ℤ_}
-use lib.Pow.{pow-add, pow-mono, shl-lt}
+use native.Mathlib.Nat.{mod-eq-of-lt}
+use lib.Count.{leadingZeros, leading-le}
+use lib.IntN.{ℤ, pos, _-ℤ_}
 use mir.Syntax.{w32}
 use mir.Val.{toZ, ofZ, SFits}
 use mir.Facts.{toZ-ofZ, toZ-pos, fits-of-lt}
 use Rattle.posit.specs.Rounding.{ratio, Rounded}
 use Rattle.posit.proofs.Apart.{Apart, first-fits, apart, apart-fits, from-tiny, to-huge, is-tiny, is-huge, minus, plus, power-few, raised}
+use Rattle.posit.proofs.Tops.{Top, top, short-below}
 use Rattle.posit.proofs.Far.{Offset, tiny, huge, middle}
 use Rattle.posit.proofs.rounding.round.Statement.{statement}
 use Rattle.posit.proofs.rounding.round.Tie as tie
@@ -22,40 +21,6 @@ use Rattle.posit.proofs.rounding.round.Lts as lts
 use Rattle.posit.proofs.rounding.below.Reads as below-reads
 use Rattle.posit.proofs.rounding.offset.Reads as offset-reads
 use Rattle.posit.proofs.rounding.place.Reads as place-reads
-
--- m shifted up by z has its top bit at bit 63
-record Top (m z : ℕ) : Type 0 where
-  few : z ≤ 63
-  from : 2 ^ 63 ≤ m * 2 ^ z
-  below : m * 2 ^ z < 2 ^ 64
-
-top : (m : ℕ) → 0 < m → m < 2 ^ 64 → Top m (leadingZeros 64 m)
-top m p h =
-    let t = leading-top 64 m p h in
-    let z = leadingZeros 64 m in
-    let e : t .0 + z ≡ 63 = omega (arith, t .1) in
-    let e' : suc (t .0) + z ≡ 64 = omega (arith, t .1) in
-    record {
-      few = omega (arith, t .1);
-      from = subst (λ (x : ℕ). x ≤ m * 2 ^ z) (sym (pow-add 2 (t .0) z) ∙ ap (λ (x : ℕ). 2 ^ x) e) (mul-le-mul-right (2 ^ z) (t .2));
-      below = subst (λ (x : ℕ). m * 2 ^ z < 2 ^ x) e' (shl-lt (suc (t .0)) z (t .3));
-    }
-
--- an m of at most 49 bits leaves the lowest 15 empty
-short-below : (m z : ℕ) → m < 2 ^ 49 → 2 ^ 63 ≤ m * 2 ^ z → m * 2 ^ z % 2 ^ 15 ≡ 0
-short-below m z l h =
-    let far = far-up in
-    ap (λ (x : ℕ). m * 2 ^ x % 2 ^ 15) (let e : z ≡ z - 15 + 15 = omega arith in e)
-    ∙ ap (λ (x : ℕ). m * x % 2 ^ 15) (pow-add 2 (z - 15) 15)
-    ∙ ap (λ (x : ℕ). x % 2 ^ 15) (sym (mul-assoc m (2 ^ (z - 15)) (2 ^ 15)))
-    ∙ mul-mod-left (m * 2 ^ (z - 15)) (2 ^ 15)
-  where
-    go : Dec (z < 15) → 15 ≤ z
-    go (yes k) = absurd (let d = mul-le-mul-left m (let w : 2 ^ z ≤ 2 ^ 14 = pow-mono {j = 14} (omega arith) in w) in omega arith)
-    go (no k) = omega arith
-
-    far-up : 15 ≤ z
-    far-up = go (decLt z 15)
 
 module _ (c : lts.After-offset (offset-reads.Asked, offset-reads.Learnt, below-reads.Asked, below-reads.Learnt, place-reads.Asked, place-reads.Learnt) reads.Pre reads.Post) where
   abbrev m : ℕ

@@ -1,8 +1,7 @@
 -- `posit::rounding::run_after` meets its contract: half of p, rounded down, is below zero where p is, and what is returned is
 -- how far it is from -1 there and from 0 elsewhere.
-use borrow.Author.Needs.{needs}
 use borrow.Author.Tests.{le-ltb, ltb-true}
-use Prim.Native.Nat.{ℕ, suc, _/_, _^_, _<_}
+use Prim.Native.Nat.{ℕ, suc, _/_}
 use mathlib.Core.Path.{_≡_, _∙_, ap, subst, subst⁻¹, refl}
 use mathlib.Core.Bool.{true, false}
 use native.Mathlib.Omega.{arith}
