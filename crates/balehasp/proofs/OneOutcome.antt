@@ -1,0 +1,49 @@
+-- What the entries for reals return and leave in the places lent is determined: any two outcomes that a contract allows are
+-- equal. The contracts of the other entries are those of the functions that they call, or equations.
+use Prim.Native.Nat.{ℕ}
+use mathlib.Core.Path.{_≡_, _∙_, refl, sym, ap, subst}
+use mathlib.Core.Bool.{Bool, true, false}
+use lib.Dec.{T}
+use lib.Ieee.{Float}
+use Rattle.real.specs.declared.numbers.RealAnswer.{RealAnswer}
+use Rattle.real.specs.declared.numbers.RealAnswer.the-variants.{Real, NaR}
+use Rattle.real.specs.declared.spans.SpanAnswer.{SpanAnswer}
+use Rattle.real.specs.declared.spans.SpanAnswer.the-variants.{Edges}
+use Rattle.real.specs.declared.spans.SpanAnswer.the-variants as Spans
+use Rattle.real.proofs.OneAnswer.{one-real, one-span}
+use Rattle.balehasp.specs.Reals.{RealOut, SpanOut}
+
+-- whether an answer holds something, and what it holds
+abbrev has-real : RealAnswer → Bool
+has-real (Real x) = true
+has-real NaR = false
+
+abbrev held : Float → RealAnswer → Float
+held d (Real x) = x
+held d NaR = d
+
+abbrev has-span : SpanAnswer → Bool
+has-span (Edges s) = true
+has-span Spans.NaR = false
+
+abbrev low : Float → SpanAnswer → Float
+low d (Edges s) = s .lower
+low d Spans.NaR = d
+
+abbrev high : Float → SpanAnswer → Float
+high d (Edges s) = s .upper
+high d Spans.NaR = d
+
+pub one-real-out : (p : ℕ) (was : Float) (r s : Bool) (x y : Float) → RealOut p was r x → RealOut p was s y → (r ≡ s) × (x ≡ y)
+one-real-out p was true true x y v w = (refl, ap (held was) (one-real p (Real x) (Real y) v w))
+one-real-out p was true false x y v w = absurd (subst T (ap has-real (one-real p (Real x) NaR v (w .0))) tt)
+one-real-out p was false true x y v w = absurd (subst T (sym (ap has-real (one-real p NaR (Real y) (v .0) w))) tt)
+one-real-out p was false false x y v w = (refl, v .1 ∙ sym (w .1))
+
+pub one-span-out : (p : ℕ) (was up : Float) (r s : Bool) (x x' y y' : Float) → SpanOut p was up r x x' → SpanOut p was up s y y' → (r ≡ s) × (x ≡ y) × (x' ≡ y')
+one-span-out p was up true true x x' y y' v w =
+    let e = one-span p (Edges (record { lower = x; upper = x' })) (Edges (record { lower = y; upper = y' })) v w in
+    (refl, ap (low was) e, ap (high up) e)
+one-span-out p was up true false x x' y y' v w = absurd (subst T (ap has-span (one-span p (Edges (record { lower = x; upper = x' })) Spans.NaR v (w .0))) tt)
+one-span-out p was up false true x x' y y' v w = absurd (subst T (sym (ap has-span (one-span p Spans.NaR (Edges (record { lower = y; upper = y' })) (v .0) w))) tt)
+one-span-out p was up false false x x' y y' v w = (refl, v .1 ∙ sym (w .1), v .2 ∙ sym (w .2))
