@@ -13,7 +13,7 @@ use Rattle.listing.proofs.put_refusal.Statement.{statement}
 use Rattle.listing.proofs.put_refusal.Tie as tie
 
 returns : tie.Need-returns
-returns c = rw (lt-ltb _ _ (c .if1 .taken)) search needs
+returns c = rw (lt-ltb (length (now (c .before .before .args .output))) 4 (omega arith)) search needs
 
 slice-write-output : tie.Need-slice-write-output
 slice-write-output c = search needs

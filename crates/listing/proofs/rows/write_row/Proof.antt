@@ -1,7 +1,8 @@
 -- `listing::rows::write_row` meets its contract: the answers to the first i patterns are written.
 use borrow.Author.Needs.{needs}
 use Prim.Native.Nat.{_-_, _≤_}
-use mathlib.Core.Path.{_≡_, refl}
+use mathlib.Core.Path.{_≡_, _∙_, ap, refl}
+use mathlib.Core.Bool.{Bool, cond}
 use mathlib.Core.List.{map}
 use native.Mathlib.Omega.{arith}
 use denote.Ref.{now}
@@ -55,7 +56,8 @@ loop-again c =
     let l = c .before .before .before .before .before .before .before .loop in
     let first = c .before .before .before .before .before .before .before .before .before .before in
     let a = first .args in
-    let e = (rw (first .pre .0) at (c .before .before .before .before .answer-or-nar .ensures)) in
+    let said = c .before .before .before .before in
+    let e = said .answer-or-nar .ensures ∙ ap (λ (b : Bool). cond b (answerOf (a .function) (said .before .number-at .result)) 0x8000) (first .pre .0) in
     (omega arith, search needs, cc (row-next (now (a .output)) (a .to) (a .function) (now (a .input)) (a .from) (l .i)))
 
 same-length : tie.Need-same-length Inv-loop μ-loop
