@@ -41,7 +41,6 @@ fn unsigned_sine(q: u64, r: u64) -> u16
 fn sin_poly(f: u64) -> u64
     requires { ⌜ f < 2 ^ 27 ⌝ }
     ensures { λ r. ⌜ r ≡ poly f ⌝ }
-    ensures { λ r. ⌜ r < 2 ^ 29 ⌝ }
 {
     if f < 0x000A_5801 {
         (f * 102_943) >> 15
@@ -53,7 +52,6 @@ fn sin_poly(f: u64) -> u64
 fn sin_series(fs: u64) -> u64
     requires { ⌜ fs < 2 ^ 16 ⌝ }
     ensures { λ r. ⌜ r ≡ series fs ⌝ }
-    ensures { λ r. ⌜ r < 2 ^ 29 ⌝ }
 {
     let fsq = (fs * fs) >> 8;
     let a = (fsq * 650) >> 25;

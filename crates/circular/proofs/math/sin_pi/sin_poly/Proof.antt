@@ -15,11 +15,11 @@ sin-series-requires c κs = search needs
 
 returns : tie.Need-returns
 unfolding poly
-returns c = (rw (lt-ltb (c .before .args .f) 0x000A_5801 (c .if1 .taken)) refl, omega arith)
+returns c = rw (lt-ltb (c .before .args .f) 0x000A_5801 (c .if1 .taken)) refl
 
 returns-2 : tie.Need-returns-2
 unfolding poly
-returns-2 c = (rw (le-ltb (c .before .before .args .f) 0x000A_5801 (omega arith)) (c .sin-series .ensures .0), c .sin-series .ensures .1)
+returns-2 c = rw (le-ltb (c .before .before .args .f) 0x000A_5801 (omega arith)) (c .sin-series .ensures)
 
 pub sin-poly-spec : {M : Type 1} → statement M
 sin-poly-spec = tie.close (tie.spec mul-result sin-series-requires returns returns-2)

@@ -75,7 +75,7 @@ mul-result c = fits-of-lt (let k = products (c .args .fs) (c .pre) in omega arit
 
 returns : tie.Need-returns
 unfolding series
-returns c = (refl, (let k = products (c .args .fs) (c .pre) in omega arith))
+returns c = refl
 
 pub sin-series-spec : {M : Type 1} → statement M
 sin-series-spec = tie.close (tie.spec mul-fsq mul-a sub-b mul-b sub-c mul-c sub-d mul-d sub-result mul-result returns)
