@@ -19,7 +19,7 @@ cross a c x d y e some p q =
     eq-of-mul-eq-mul-right c some (x * e) (y * d)
     (mul-right-comm x e c ∙ ap (λ (z : ℕ). z * e) p ∙ mul-right-comm a d e ∙ ap (λ (z : ℕ). z * d) (sym q) ∙ mul-right-comm y c d)
 
-same-bits : (x y : Float) (s : Bool) (a c : ℕ) → 0 < c → HasValue x s a c → HasValue y s a c → toBits binary64 x ≡ toBits binary64 y
+pub same-bits : (x y : Float) (s : Bool) (a c : ℕ) → 0 < c → HasValue x s a c → HasValue y s a c → toBits binary64 x ≡ toBits binary64 y
 unfolding toBits
 same-bits nan y s a c some v w = absurd v
 same-bits (inf t) y s a c some v w = absurd v

@@ -1,15 +1,13 @@
 // Reads patterns from standard input, two bytes each, the low byte first, and writes the f64 of each as eight bytes, the low
-// byte first: eight FF bytes for NaR. A last odd byte is ignored. `tools/reals-check --write` made stdin, which is every
-// pattern in order and an odd byte, and from it stdout, with exact fractions.
-ghost use mathlib.Core.Bool.{not};
+// byte first: eight FF bytes for NaR. A last odd byte is ignored. It ends at the first read or write that fails, and says so.
+// `tools/reals-check --write` made stdin, which is every pattern in order and an odd byte, and from it stdout, with exact fractions.
 ghost use mathlib.Core.Path.{_≡_};
-ghost use Prim.Native.Nat.{_+_, _*_, _<_};
-ghost use lib.Dec.{T};
-ghost use lib.Ieee.{binary64, isNan, toBits};
-ghost use lib.ListN.{getD, length};
-ghost use Rattle.reals.specs.Bytes.{littleEndian};
-use libc::STDIN_FILENO;
-use libc::STDOUT_FILENO;
+ghost use Prim.Native.Nat.{_+_, _*_, _<_, _≤_};
+ghost use lib.ListN.{getD, length, take};
+ghost use lib.Seq.{sets};
+ghost use Rattle.io.specs.Counts.{Counts};
+ghost use Rattle.blocks.specs.Words.{littleEndian};
+ghost use Rattle.reals.specs.Reals.{realsOf};
 use real::RealAnswer;
 
 fn wide(byte: u8) -> u16
@@ -25,50 +23,61 @@ fn pattern_at(bytes: &[u8], i: usize) -> u16
     wide(bytes[i]) + 256 * wide(bytes[i + 1])
 }
 
-fn bytes_of(x: f64) -> [u8; 8]
-    requires { ⌜ T (not (isNan x)) ⌝ }
-    ensures { λ r. ⌜ r ≡ littleEndian 8 (toBits binary64 x) ⌝ }
+fn put_word(output: &mut [u8], at: usize, word: u64)
+    requires { ⌜ at + 8 ≤ length (now output) ⌝ }
+    ensures { λ _. ⌜ now (output .exit) ≡ sets (now (output .entry)) at (littleEndian 8 word) ⌝ }
 {
-    let bits = f64::to_bits(x);
-    [
-        (bits % 256) as u8,
-        (bits / 0x100 % 256) as u8,
-        (bits / 0x1_0000 % 256) as u8,
-        (bits / 0x100_0000 % 256) as u8,
-        (bits / 0x1_0000_0000 % 256) as u8,
-        (bits / 0x100_0000_0000 % 256) as u8,
-        (bits / 0x1_0000_0000_0000 % 256) as u8,
-        (bits / 0x100_0000_0000_0000 % 256) as u8,
-    ]
-}
-
-fn write_reals(bytes: &[u8]) {
-    let nar = [0xffu8; 8];
-    let mut i = 0;
-    while i + 1 < bytes.len() {
-        let p = pattern_at(bytes, i);
-        i += 2;
-        let RealAnswer::Real(x) = real::to_f64(p) else {
-            io::write_all(STDOUT_FILENO, &nar);
-            continue;
-        };
-        let eight = bytes_of(x);
-        io::write_all(STDOUT_FILENO, &eight);
+    let mut rest = word;
+    let mut j: usize = 0;
+    while j < 8 {
+        output[at + j] = (rest % 256) as u8;
+        rest /= 256;
+        j += 1;
     }
 }
 
-// Takes the next part of the input, of an even number of bytes unless it is the last, and answers whether there may be more.
-fn convert_some() -> bool {
-    let mut buffer = io::large_buffer();
-    let n = io::read_full(STDIN_FILENO, &mut buffer);
-    write_reals(&buffer[..n]);
-    n == 65536
+// Writes the f64 of each pattern in `bytes` into the first bytes of `output`, and answers how many bytes that is.
+fn convert(bytes: &[u8], output: &mut [u8]) -> usize
+    requires { ⌜ 4 * length (now bytes) ≤ length (now output) ⌝ }
+    ensures { λ n. ⌜ Counts n (now (output .exit)) ⌝ }
+    ensures { λ n. ⌜ take n (now (output .exit)) ≡ realsOf (now (bytes .entry)) ⌝ }
+{
+    let count = bytes.len() / 2;
+    let mut i: usize = 0;
+    while i < count {
+        let p = pattern_at(bytes, 2 * i);
+        let at = 8 * i;
+        i += 1;
+        let RealAnswer::Real(x) = real::to_f64(p) else {
+            put_word(output, at, u64::MAX);
+            continue;
+        };
+        put_word(output, at, f64::to_bits(x));
+    }
+    8 * count
+}
+
+// Room for what a block of input gives.
+fn output_block() -> [u8; 524288]
+    ensures { λ r. ⌜ 524288 ≡ length r ⌝ }
+{
+    [0; 524288]
+}
+
+// Converts the next block, and answers whether there may be more. A block is of whole patterns unless it is the last.
+fn convert_block() -> bool {
+    let mut input = blocks::input_block();
+    let block = blocks::read_block(&mut input);
+    let n = block.count;
+    let mut output = output_block();
+    let written = convert(&input[..n], &mut output);
+    blocks::write_block(&output[..written]) && block.full
 }
 
 // A proved loop has to end, and nothing says that the input does: it counts down from a number that no run uses up.
 fn main() {
-    let mut turns = u64::MAX;
-    while turns > 0 && convert_some() {
+    let mut turns = if blocks::without_words() { u64::MAX } else { 0 };
+    while turns > 0 && convert_block() {
         turns -= 1;
     }
 }

@@ -5,14 +5,14 @@ use mathlib.Core.List.{List}
 use native.Mathlib.Nat.{lt-of-lt-of-le, add-zero}
 use lib.ListN.{getD}
 use lib.Pow.{pow-add, pow-mono}
-use Rattle.patterns.specs.Bytes.{wordAt}
+use Rattle.blocks.specs.Words.{wordAt}
 use borrow.Author.Needs.{needs}
 use native.Mathlib.Omega.{arith}
 use Rattle.patterns.proofs.bits_at.Statement.{statement}
 use Rattle.patterns.proofs.bits_at.Tie as tie
 
 abbrev Inv-loop : tie.InvT-loop
-Inv-loop bytes i bits₀ j₀ bits j = (j ≤ 8) × (bits ≡ wordAt bytes (i + j) (8 - j)) × (bits < 2 ^ (8 * (8 - j)))
+Inv-loop bytes i bits₀ j₀ bits j = (j ≤ 8) × (bits ≡ wordAt (8 - j) bytes (i + j)) × (bits < 2 ^ (8 * (8 - j)))
 
 abbrev μ-loop : tie.MeasureT-loop
 μ-loop bytes i bits₀ j₀ bits j = j
@@ -27,12 +27,12 @@ fits-more j bits b some most fits byte =
     ap (λ (k : ℕ). 2 ^ k) (let k : 8 * (8 - (j - 1)) ≡ 8 * (8 - j) + 8 = omega arith in k) ∙ pow-add 2 (8 * (8 - j)) 8 in
     omega arith
 
-word-more : (bytes : List ℕ) (i j bits b : ℕ) → 0 < j → j ≤ 8 → bits ≡ wordAt bytes (i + j) (8 - j) → b ≡ getD bytes (i + (j - 1)) 0
-    → 256 * bits + b ≡ wordAt bytes (i + (j - 1)) (8 - (j - 1))
+word-more : (bytes : List ℕ) (i j bits b : ℕ) → 0 < j → j ≤ 8 → bits ≡ wordAt (8 - j) bytes (i + j) → b ≡ getD bytes (i + (j - 1)) 0
+    → 256 * bits + b ≡ wordAt (8 - (j - 1)) bytes (i + (j - 1))
 word-more bytes i j bits b some most e f =
     let n : 8 - (j - 1) ≡ suc (8 - j) = omega arith in
     let k : suc (i + (j - 1)) ≡ i + j = omega arith in
-    let w : wordAt bytes (suc (i + (j - 1))) (8 - j) ≡ bits = ap (λ (x : ℕ). wordAt bytes x (8 - j)) k ∙ sym e in
+    let w : wordAt (8 - j) bytes (suc (i + (j - 1))) ≡ bits = ap (λ (x : ℕ). wordAt (8 - j) bytes x) k ∙ sym e in
     rw (n, w) (omega arith)
 
 loop-holds : tie.Need-loop-holds Inv-loop μ-loop
@@ -78,8 +78,8 @@ returns : tie.Need-returns Inv-loop μ-loop
 returns c =
     let l = c .before .loop in
     let args = c .before .before .before .args in
-    subst (λ (k : ℕ). l .bits ≡ wordAt (args .bytes .now) (args .i + k) (8 - k)) (let z : l .j ≡ 0 = omega arith in z) (l .inv .1)
-    ∙ ap (λ (k : ℕ). wordAt (args .bytes .now) k 8) (add-zero (args .i))
+    subst (λ (k : ℕ). l .bits ≡ wordAt (8 - k) (args .bytes .now) (args .i + k)) (let z : l .j ≡ 0 = omega arith in z) (l .inv .1)
+    ∙ ap (λ (k : ℕ). wordAt 8 (args .bytes .now) k) (add-zero (args .i))
 
 pub bits-at-spec : {M : Type 1} → statement M
 bits-at-spec =

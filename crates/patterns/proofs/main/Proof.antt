@@ -9,11 +9,14 @@ Inv-loop turns₀ turns = Unit {0}
 abbrev μ-loop : tie.MeasureT-loop
 μ-loop turns₀ turns = turns
 
+without-words-requires : tie.Need-without-words-requires Inv-loop μ-loop
+without-words-requires c κs = search needs
+
 loop-holds : tie.Need-loop-holds Inv-loop μ-loop
 loop-holds c = search needs
 
-convert-some-requires : tie.Need-convert-some-requires Inv-loop μ-loop
-convert-some-requires c κs = search needs
+convert-block-requires : tie.Need-convert-block-requires Inv-loop μ-loop
+convert-block-requires c κs = search needs
 
 sub-turns : tie.Need-sub-turns Inv-loop μ-loop
 sub-turns c = search needs
@@ -36,8 +39,9 @@ main-spec =
     (tie.spec
     Inv-loop
     μ-loop
+    without-words-requires
     loop-holds
-    convert-some-requires
+    convert-block-requires
     sub-turns
     loop-less
     loop-again
