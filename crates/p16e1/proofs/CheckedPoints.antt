@@ -1,4 +1,4 @@
--- The checked points of document 01 hold: each by computing the number, or the answer that `answered` shows to be the rule's.
+-- The checked points of document 01 hold, and two more points of each function: each by computing the number, or the answer that `answered` shows to be the rule's.
 use Prim.Native.Nat.{ℕ}
 use mathlib.Core.Path.{refl}
 use lib.Count.{leadingZeros}
@@ -20,8 +20,11 @@ use Rattle.logarithm.specs.Log2 as Log2
 use Rattle.circular.specs.SinPi as SinPi
 use Rattle.circular.specs.CosPi as CosPi
 use Rattle.circular.specs.TanPi as TanPi
+use Rattle.arc.specs.AtanPi as AtanPi
+use Rattle.arc.specs.AsinPi as AsinPi
 use Rattle.arc.specs.AcosPi as AcosPi
 use Rattle.p16e1.specs.Points.{Every, table}
+use Rattle.p16e1.specs.TwoPoints.{twoEach}
 use Rattle.p16e1.proofs.ByNumber.{meets-answer}
 
 rounded : (e : ℤ) → Rounds 1 16 (dyadic (pos 1) e) (answer 1 16 (dyadic (pos 1) e))
@@ -30,6 +33,29 @@ rounded e = answered 1 16 (lit≤ tt) (dyadic (pos 1) e)
 row-of : (f p : ℕ) → Meets (rowOf f p) (answerTo (rowOf f p))
 row-of f p = meets-answer (rowOf f p)
 
+-- one point, and the points after it
+infixr 20 _also_
+pub _also_ : {A B : Type 0} → A → B → A × B
+x also y = (x, y)
+
+tables : Every table × Every twoEach
+unfolding run magnitude opposite number descend rowOf ends root leadingZeros Leading.power Leading.fraction Exp.poly Exp2.poly Ln.poly Ln.logarithm
+    Ln.row Log2.poly Log2.logarithm Log2.row SinPi.series SinPi.poly SinPi.unsigned SinPi.sine SinPi.row CosPi.series CosPi.poly CosPi.unsigned
+    CosPi.cosine CosPi.row TanPi.denominator TanPi.numerator TanPi.poly TanPi.remainder TanPi.row AtanPi.poly AtanPi.small AtanPi.large
+    AtanPi.quotient AtanPi.row AsinPi.poly AsinPi.arc AsinPi.row AcosPi.poly AcosPi.arc AcosPi.row
+tables = (
+  refl also refl also rounded (pos 27) also rounded (negsuc 26)
+      also row-of 1 0 also row-of 2 0x72C0 also row-of 2 0x72C1 also row-of 2 0x8D40
+      also row-of 4 0x0001 also row-of 3 0x4000 also row-of 5 0x3000 also row-of 6 0x4000
+      also row-of 7 0x2000 also row-of 7 0x3000 also row-of 10 0xC000 also tt,
+  row-of 1 0 also row-of 1 0x4000 also row-of 2 0 also row-of 2 0x4000
+      also row-of 3 0x4000 also row-of 3 0x5000 also row-of 4 0x4000 also row-of 4 0x5000
+      also row-of 5 0 also row-of 5 0x3000 also row-of 6 0 also row-of 6 0x4000 also row-of 7 0 also row-of 7 0x2000
+      also row-of 8 0 also row-of 8 0x4000 also row-of 9 0 also row-of 9 0x4000 also row-of 10 0x4000 also row-of 10 0xC000 also tt,
+)
+
 pub checked : Every table
-unfolding run magnitude opposite number descend rowOf ends root leadingZeros Leading.power Leading.fraction Exp.poly Exp2.poly Ln.poly Ln.logarithm Ln.row Log2.poly Log2.logarithm Log2.row SinPi.series SinPi.poly SinPi.unsigned SinPi.sine SinPi.row CosPi.series CosPi.poly CosPi.unsigned CosPi.cosine CosPi.row TanPi.denominator TanPi.numerator TanPi.poly TanPi.remainder TanPi.row AcosPi.poly AcosPi.arc AcosPi.row
-checked = (refl, (refl, (rounded (pos 27), (rounded (negsuc 26), (row-of 1 0, (row-of 2 0x72C0, (row-of 2 0x72C1, (row-of 2 0x8D40, (row-of 4 0x0001, (row-of 3 0x4000, (row-of 5 0x3000, (row-of 6 0x4000, (row-of 7 0x2000, (row-of 7 0x3000, (row-of 10 0xC000, tt)))))))))))))))
+checked = tables .0
+
+pub two-each : Every twoEach
+two-each = tables .1

@@ -1,2 +1,3 @@
 pub mod Functions
 pub mod Points
+pub mod TwoPoints
