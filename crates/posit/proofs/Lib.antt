@@ -21,3 +21,5 @@ pub mod Words
 pub mod Apart
 pub mod Tops
 pub mod Far
+pub mod Fractions
+pub mod Ends

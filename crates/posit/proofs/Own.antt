@@ -40,7 +40,7 @@ module _ (es n u : ℕ) (few : 3 ≤ n) (l : 1 ≤ u) (h : u ≤ largest n) wher
       (ap (λ (x : ℕ). magnitude es n u * x) (pow-add 2 U (2 ^ es) ∙ mul-comm (2 ^ U) (2 ^ (2 ^ es))) ∙ sym (mul-assoc (magnitude es n u) (2 ^ (2 ^ es)) (2 ^ U)))
       ∙ sym (compare-times d M (2 ^ U) (pow-pos U))
 
-  own-positive : Rounded es n (ratio (magnitude es n u * 1) (2 ^ U)) u
+  pub own-positive : Rounded es n (ratio (magnitude es n u * 1) (2 ^ U)) u
   own-positive =
       record {
         least = l;

@@ -1,55 +1,20 @@
 -- From f64 goes one way: a larger f64 never gets a smaller answer, in the order of the numbers. An infinity is no number:
 -- plus infinity gives NaR, which stands first, so the larger of the two has to be finite.
-use Prim.Native.Nat.{ℕ, zero, suc, _*_, _^_, _≤_, _<_, compare, Ordering, Ordering·lt, Ordering·gt}
-use mathlib.Core.Path.{_≡_, _∙_, ap, subst}
+use Prim.Native.Nat.{ℕ, zero, suc, _*_, _≤_, _<_}
+use mathlib.Core.Path.{_≡_, _∙_, ap}
 use mathlib.Core.Bool.{Bool, true, false, _||_}
 use native.Mathlib.Omega.{arith}
-use native.Mathlib.Nat.{zero-mul, zero-lt-suc, mul-pos, mul-right-comm, mul-lt-mul-of-pos-right, mul-le-mul-right, lt-of-mul-lt-mul-right}
+use native.Mathlib.Nat.{zero-mul, zero-lt-suc, mul-pos}
 use lib.Dec.{T, ltb, eqb, ltb→lt, eqb→eq}
 use lib.IntN.{ℤ}
 use lib.Ieee.{Float, nan, inf, fin, up, down, below, level, le}
 use lib.Ieee.Fits.{up-pos, down-pos, and-l, and-r}
 use lib.Ieee.Scale.{finite}
 use Rattle.posit.specs.Number.{withSign}
-use Rattle.posit.specs.Rounding.{ratio, dyadic}
-use Rattle.posit.proofs.Compare.{Told, less, more, told, compare-is}
+use Rattle.posit.specs.Rounding.{dyadic}
+use Rattle.posit.proofs.Fractions.{at-most}
 use Rattle.posit.proofs.Laws.{NoMore, same-nought, to-plus, from-minus, across, both-plus, both-minus, in-order, dyadic-straight, rank}
-use Rattle.posit.proofs.Unique.{AtMost}
 use Rattle.real.specs.Reals.{FromF64}
-
-told-less : (m n : ℕ) (o : Ordering) → Told m n o → o ≡ Ordering·lt → m < n
-told-less m n o t e = unlt (subst (Told m n) e t)
-  where
-    unlt : Told m n Ordering·lt → m < n
-    unlt (less h) = h
-
-told-more : (m n : ℕ) (o : Ordering) → Told m n o → o ≡ Ordering·gt → n < m
-told-more m n o t e = ungt (subst (Told m n) e t)
-  where
-    ungt : Told m n Ordering·gt → n < m
-    ungt (more h) = h
-
--- of two fractions the smaller has the smaller cut
-module _ (a b a' b' : ℕ) (some : 0 < b) (some' : 0 < b') (h : a * b' ≤ a' * b) where
-  scaled : (k : ℕ) → a * 2 ^ k * b' ≤ a' * 2 ^ k * b
-  scaled k = let l = mul-right-comm a (2 ^ k) b' in let r = mul-right-comm a' (2 ^ k) b in let m = mul-le-mul-right (2 ^ k) h in omega arith
-
-  pub at-most : AtMost (ratio a b) (ratio a' b')
-  at-most =
-      record {
-        below = λ d k e.
-            let x = told-less (d * b) (a * 2 ^ k) (compare (d * b) (a * 2 ^ k)) (told (d * b) (a * 2 ^ k)) e in
-            let y = mul-lt-mul-of-pos-right x some' in
-            let z = mul-right-comm d b b' in
-            let s = scaled k in
-            compare-is (d * b') (a' * 2 ^ k) Ordering·lt (less (lt-of-mul-lt-mul-right b (omega arith)));
-        above = λ d k e.
-            let x = told-more (d * b') (a' * 2 ^ k) (compare (d * b') (a' * 2 ^ k)) (told (d * b') (a' * 2 ^ k)) e in
-            let y = mul-lt-mul-of-pos-right x some in
-            let z = mul-right-comm d b' b in
-            let s = scaled k in
-            compare-is (d * b) (a * 2 ^ k) Ordering·gt (more (lt-of-mul-lt-mul-right b' (omega arith)));
-      }
 
 either : (p q : Bool) → T (p || q) → (P : Type 0) → (T p → P) → (T q → P) → P
 either true q t P f g = f tt
