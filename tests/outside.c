@@ -128,6 +128,16 @@ static Guarded batch_in, batch_out;
 /* Where a call may write a result, or nowhere. */
 static void *perhaps(void *place) { return below(8) ? place : NULL; }
 
+/* What a caller may hand over with length 0: nothing, what is aligned for nothing, a place inside the other buffer. */
+static uint16_t *nowhere(const uint16_t *other)
+{
+    switch (below(3)) {
+    case 0: return NULL;
+    case 1: return (uint16_t *)1;
+    default: return (uint16_t *)((uintptr_t)other + 2);
+    }
+}
+
 /* One batch with buffers of its own, or with the output in the input's place. */
 static uint16_t one_batch(uint16_t f, size_t inputs, size_t outputs, size_t start, size_t limit, bool in_place)
 {
@@ -149,11 +159,10 @@ static uint16_t one_batch(uint16_t f, size_t inputs, size_t outputs, size_t star
         found += model[i] == BALEHASP_NAR;
     }
 
-    /* where there is nothing to point to, a null pointer or one that is aligned for nothing */
-    if (!inputs && below(2))
-        input = below(2) ? NULL : (uint16_t *)1;
-    if (!outputs && below(2))
-        output = below(2) ? NULL : (uint16_t *)1;
+    if (!inputs)
+        input = nowhere(output);
+    if (!outputs)
+        output = nowhere(input);
     uint16_t said = balehasp_batch(f, input, inputs, output, outputs, start, limit, next_place, nars_place);
     expect(said == refusal, "a batch's refusal", said, refusal);
     expect(!next_place || next == start + done, "a batch's next place", next, start + done);
@@ -178,9 +187,13 @@ static void misused_batch(const void *input, size_t inputs, void *output, size_t
 /* Overlaps other than the same place, odd addresses, null pointers, lengths that nothing can have. Returns how many. */
 static unsigned misused_batches(void)
 {
+    _Static_assert(BALEHASP_MISUSED > BALEHASP_REFUSED_AFTER, "no refusal's number");
     unsigned count = 0;
     uint8_t *whole = place(&batch_out, 400, true);
     for (size_t n = 1; n <= 40; n++) {
+        uint16_t *first = (uint16_t *)(void *)whole; /* neighbours do not overlap */
+        expect(balehasp_batch(1, first, n, first + n, n, 0, n, NULL, NULL) == 0, "an output right after the input", n, 0);
+        expect(balehasp_batch(1, first + n, n, first, n, 0, n, NULL, NULL) == 0, "an input right after the output", n, 0);
         for (size_t m = 1; m <= 40; m++) {
             for (size_t by = 1; by < n; by++, count++) /* the output begins inside the input */
                 misused_batch(whole, n, whole + 2 * by, m);
@@ -205,13 +218,14 @@ static unsigned misused_batches(void)
 static void results_in_the_buffers(void)
 {
     size_t word[2] = {0, 0}, one = 1, two = 2;
-    uint16_t *patterns = (uint16_t *)(void *)word, nar[] = {BALEHASP_NAR, BALEHASP_NAR};
-    memcpy(patterns, nar, sizeof nar);
+    uint16_t *patterns = (uint16_t *)(void *)word;
+    const uint16_t in[] = {BALEHASP_NAR, 0x4000}, out[] = {BALEHASP_NAR, 0};
+    memcpy(patterns, in, sizeof in);
     expect(balehasp_batch(BALEHASP_LN, patterns, 2, patterns + sizeof two / 2, 2, 0, 2, word, word) == 0, "results in one place", 0, 0);
-    expect(memcmp(word, &two, sizeof two) == 0 && memcmp(word + 1, nar, sizeof nar) == 0, "the count of NaR comes last", 0, 0);
-    memcpy(patterns, nar, sizeof nar);
-    expect(balehasp_batch(BALEHASP_LN, patterns, 2, patterns, 2, 0, 1, word, NULL) == 0, "a result in the output", 0, 0);
-    expect(memcmp(word, &one, sizeof one) == 0, "the next place comes after the answers", 0, 0);
+    expect(memcmp(word, &one, sizeof one) == 0 && memcmp(word + 1, out, sizeof out) == 0, "the count of NaR comes last", 0, 0);
+    memcpy(patterns, in, sizeof in);
+    expect(balehasp_batch(BALEHASP_LN, patterns, 2, patterns, 2, 0, 2, word, NULL) == 0, "a result in the output", 0, 0);
+    expect(memcmp(word, &two, sizeof two) == 0, "the next place comes after the answers", 0, 0);
     double edges[2];
     expect(balehasp_span(0x4000, edges, edges) && edges[0] > 1, "the upper edge comes last", 0, 0);
 }

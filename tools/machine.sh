@@ -2,7 +2,7 @@
 # Makes the library for it in the folder `room`, which is removed at the end, and sets compile to the compiler with its flags
 # and start to what starts its programs here. A program for another machine is linked statically: it needs no loader then.
 . "$top/tools/kit.sh"
-need() { command -v "$1" >/dev/null || lacks "no $1 on this machine: Debian's package $2 has it"; }
+need() { command -v "$1" >/dev/null || stop "no $1 on this machine: Debian's package $2 has it"; }
 start=()
 case $machine in
 "$(uname -m)")
@@ -21,7 +21,7 @@ aarch64)
     start=(qemu-aarch64)
     ;;
 *)
-    lacks "the library is made for x86_64 and aarch64, not for $machine"
+    stop "the library is made for x86_64 and aarch64, not for $machine"
     ;;
 esac
 room=$(mktemp -d)
