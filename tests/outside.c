@@ -569,6 +569,7 @@ int main(int words, char **word)
         fputs("usage: outside ANSWERS ROUNDS SEED\n", stderr);
         return 2;
     }
+    setvbuf(stdout, NULL, _IOLBF, BUFSIZ); /* a run through an emulator takes its time and shows how far it is */
     rounds = (unsigned)strtoul(word[2], NULL, 10);
     state = strtoull(word[3], NULL, 0);
     printf("version %s, %u rounds, seed %" PRIu64 "\n", BALEHASP_VERSION, rounds, state);

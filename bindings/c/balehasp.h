@@ -107,7 +107,7 @@ BALEHASP_MUST_USE uint16_t balehasp_batch(
  * functions (1 to 10) and their numbers, then a count of patterns (0 to 1,024) and the patterns; the answered one has after
  * that the count of answers and the answers, all of the first function's, then the next's.
  * Refusals: 4, 5 and 1 as the sections are read, then 6, then 2; then *written is 0.
- * Input and output may overlap. */
+ * Input and output may overlap: the stack has room for a copy of the input, some 2,100 bytes. */
 BALEHASP_MUST_USE uint16_t balehasp_listing(
     const uint8_t *input, size_t input_length,
     uint8_t *output, size_t output_length,
@@ -122,9 +122,10 @@ BALEHASP_MUST_USE uint16_t balehasp_from_f64(double x);
 
 /* Whether p has a span; if so, writes its edges: the numbers of the posits of 17 bits next below and next above p. NaR has
  * none: then the result is false, and both places stay as they were, stale like *real.
- * The numbers that round to p are those between its edges, and the edges where p is even; but not at five patterns. From the
- * outer edge of 0x7FFF and of 0x8001 on, and from the inner edge of 0x0001 and of 0xFFFF down to 0, all numbers round to that
- * pattern too, so 2^-40 rounds to 0x0001 and lies outside its span; and in the span of 0 only 0 itself rounds to 0. */
+ * The numbers that round to p are those between its edges, and the edges where p is even; but not at five patterns. All
+ * numbers from the outer edge of 0x7FFF or 0x8001 outward, and all between 0 and the inner edge of 0x0001 or 0xFFFF, that edge
+ * too, round to that pattern as well: 2^-40 rounds to 0x0001 and lies outside its span. In the span of 0 only 0 itself rounds
+ * to 0. */
 BALEHASP_MUST_USE bool balehasp_span(uint16_t p, double *lower, double *upper);
 
 /* ---- The calls with pointers as C makes them.

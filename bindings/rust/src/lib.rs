@@ -400,8 +400,8 @@ pub enum Span {
 }
 
 /// p's span. The numbers that round to p are those between its edges, and the edges where p is even; but not at five patterns.
-/// From the outer edge of `0x7FFF` and of `0x8001` on, and from the inner edge of `0x0001` and of `0xFFFF` down to 0, all
-/// numbers round to that pattern too; and in the span of 0 only 0 itself rounds to 0.
+/// All numbers from the outer edge of `0x7FFF` or `0x8001` outward, and all between 0 and the inner edge of `0x0001` or
+/// `0xFFFF`, that edge too, round to that pattern as well. In the span of 0 only 0 itself rounds to 0.
 ///
 /// ```
 /// use balehasp::{from_f64, span, Span};
