@@ -13,8 +13,9 @@
 static unsigned char stack[ROOM];
 static ucontext_t here, there;
 static uint16_t input[1024], output[1024];
-static uint8_t listing[22 + 2 + 2048], answered[22552];
+static uint8_t listing[BALEHASP_LONGEST_LISTING], answered[BALEHASP_LONGEST_ANSWERED];
 static volatile uint16_t sink;
+static bool refused;
 
 static void nothing(void) {}
 
@@ -40,13 +41,13 @@ static void batch(void)
 {
     size_t next, nars;
     for (uint16_t f = 1; f <= 10; f++)
-        sink = balehasp_batch(f, input, 1024, output, 1024, 0, 1024, &next, &nars);
+        refused |= balehasp_batch(f, input, 1024, output, 1024, 0, 1024, &next, &nars) != 0;
 }
 
 static void answer_listing(void)
 {
     size_t written;
-    sink = balehasp_listing(listing, sizeof listing, answered, sizeof answered, &written);
+    refused |= balehasp_listing(listing, sizeof listing, answered, sizeof answered, &written) != 0;
 }
 
 static void reals(void)
@@ -88,5 +89,7 @@ int main(void)
     size_t none = used(nothing);
     printf("stack, at most, with the caller's own frame: the ten functions %zu, answer %zu, batch %zu, listing %zu, reals %zu bytes\n",
            used(functions) - none, used(by_number) - none, used(batch) - none, used(answer_listing) - none, used(reals) - none);
-    return 0;
+    if (refused)
+        fputs("stack: a batch or the listing was refused, so its bytes are not those of the work\n", stderr);
+    return refused;
 }

@@ -1,9 +1,12 @@
-/* The compiled library from outside, against the answers of the original Rust and an independent model of document 01.
+/* The compiled library and its header from outside, against the answers of the original Rust and an independent model of
+ * document 01.
  *
- *   outside ANSWERS [SEED]
+ *   outside ANSWERS ROUNDS SEED
  *
- * ANSWERS is what oracle/record writes. Every buffer that a call gets lies between pages that may not be touched, against the
- * one before it or the one after it; what it does not lend is filled with noise, and all of it is compared after the call. */
+ * ANSWERS is what oracle/record writes, ROUNDS how many random cases each part tries. Every buffer that a call gets lies
+ * between pages that may not be touched, against the one before it or the one after it; what it does not lend is filled with
+ * noise, and all of it is compared after the call. The model names refusals by the header's constants, which so are held to
+ * the numbers that the archive gives. */
 #define _DEFAULT_SOURCE
 #include <inttypes.h>
 #include <math.h>
@@ -17,10 +20,10 @@
 
 #define FUNCTIONS 10
 #define PATTERNS 65536
-#define ROUNDS 1000000
 
 static uint16_t answers[FUNCTIONS][PATTERNS];
 static uint64_t state;
+static unsigned rounds;
 
 static void fail(const char *what, uint64_t a, uint64_t b)
 {
@@ -91,12 +94,14 @@ static void expect_same(const Guarded *g, const char *what, uint64_t a, uint64_t
 
 static void each_function(void)
 {
-    uint16_t (*const entries[FUNCTIONS])(uint16_t) = {
-        balehasp_exp, balehasp_exp2, balehasp_ln, balehasp_log2, balehasp_sin_pi,
-        balehasp_cos_pi, balehasp_tan_pi, balehasp_atan_pi, balehasp_asin_pi, balehasp_acos_pi};
+    uint16_t (*const entries[FUNCTIONS + 1])(uint16_t) = {
+        [BALEHASP_EXP] = balehasp_exp, [BALEHASP_EXP2] = balehasp_exp2, [BALEHASP_LN] = balehasp_ln,
+        [BALEHASP_LOG2] = balehasp_log2, [BALEHASP_SIN_PI] = balehasp_sin_pi, [BALEHASP_COS_PI] = balehasp_cos_pi,
+        [BALEHASP_TAN_PI] = balehasp_tan_pi, [BALEHASP_ATAN_PI] = balehasp_atan_pi,
+        [BALEHASP_ASIN_PI] = balehasp_asin_pi, [BALEHASP_ACOS_PI] = balehasp_acos_pi};
     for (unsigned f = 1; f <= FUNCTIONS; f++) {
         for (unsigned p = 0; p < PATTERNS; p++) {
-            expect(entries[f - 1]((uint16_t)p) == answers[f - 1][p], "a function differs from the Rust", f, p);
+            expect(entries[f]((uint16_t)p) == answers[f - 1][p], "a function differs from the Rust", f, p);
             uint16_t answer = (uint16_t)~answers[f - 1][p];
             expect(balehasp_answer((uint16_t)f, (uint16_t)p, &answer) == 0, "answer refuses a known function", f, p);
             expect(answer == answers[f - 1][p], "answer differs from the Rust", f, p);
@@ -106,9 +111,10 @@ static void each_function(void)
         if (1 <= f && f <= FUNCTIONS)
             continue;
         uint16_t p = (uint16_t)noise(), poison = (uint16_t)noise(), answer = poison;
-        expect(balehasp_answer((uint16_t)f, p, &answer) == 1, "answer takes an unknown function", f, p);
+        expect(balehasp_answer((uint16_t)f, p, &answer) == BALEHASP_REFUSED_FUNCTION, "answer takes an unknown function", f, p);
         expect(answer == poison, "a refused answer is written", f, p);
     }
+    expect(balehasp_answer(1, 0, NULL) == 0 && balehasp_answer(0, 0, NULL) == BALEHASP_REFUSED_FUNCTION, "no place for the answer", 0, 0);
     puts("655360 answers by ten entries, and again by number: all as the Rust's");
     puts("65526 unknown function numbers: refused, nothing written");
 }
@@ -119,29 +125,109 @@ static size_t smaller(size_t a, size_t b) { return a < b ? a : b; }
 
 static Guarded batch_in, batch_out;
 
-static uint16_t one_batch(uint16_t f, size_t inputs, size_t outputs, size_t start, size_t limit)
+/* Where a call may write a result, or nowhere. */
+static void *perhaps(void *place) { return below(8) ? place : NULL; }
+
+/* What a caller may hand over with length 0: nothing, what is aligned for nothing, a place inside the other buffer. */
+static uint16_t *nowhere(const uint16_t *other)
 {
-    uint16_t *input = (uint16_t *)(void *)place(&batch_in, 2 * inputs, below(2));
-    uint16_t *output = (uint16_t *)(void *)place(&batch_out, 2 * outputs, below(2));
+    switch (below(3)) {
+    case 0: return NULL;
+    case 1: return (uint16_t *)1;
+    default: return (uint16_t *)((uintptr_t)other + 2);
+    }
+}
+
+/* One batch with buffers of its own, or with the output in the input's place. */
+static uint16_t one_batch(uint16_t f, size_t inputs, size_t outputs, size_t start, size_t limit, bool in_place)
+{
+    uint16_t *output = (uint16_t *)(void *)place(&batch_out, 2 * (in_place && outputs < inputs ? inputs : outputs), below(2));
+    uint16_t *input = in_place ? output : (uint16_t *)(void *)place(&batch_in, 2 * inputs, below(2));
     size_t next = (size_t)noise(), nars = (size_t)noise();
+    size_t *next_place = perhaps(&next), *nars_place = perhaps(&nars);
     keep(&batch_in);
     keep(&batch_out);
     uint16_t *model = (uint16_t *)(void *)(batch_out.before + ((uint8_t *)output - batch_out.bytes));
 
-    uint16_t refusal = f < 1 || f > FUNCTIONS ? 1 : outputs < inputs ? 2 : inputs < start ? 3 : 0;
+    uint16_t refusal = f < 1 || f > FUNCTIONS ? BALEHASP_REFUSED_FUNCTION
+                       : outputs < inputs     ? BALEHASP_REFUSED_OUTPUT
+                       : inputs < start       ? BALEHASP_REFUSED_START
+                                              : 0;
     size_t done = refusal ? 0 : smaller(limit, inputs - start), found = 0;
     for (size_t i = start; done && i < start + done; i++) {
         model[i] = answers[f - 1][input[i]];
         found += model[i] == BALEHASP_NAR;
     }
 
-    uint16_t said = balehasp_batch(f, input, inputs, output, outputs, start, limit, &next, &nars);
+    if (!inputs)
+        input = nowhere(output);
+    if (!outputs)
+        output = nowhere(input);
+    uint16_t said = balehasp_batch(f, input, inputs, output, outputs, start, limit, next_place, nars_place);
     expect(said == refusal, "a batch's refusal", said, refusal);
-    expect(next == start + done, "a batch's next place", next, start + done);
-    expect(nars == found, "a batch's count of NaR", nars, found);
+    expect(!next_place || next == start + done, "a batch's next place", next, start + done);
+    expect(!nars_place || nars == found, "a batch's count of NaR", nars, found);
     expect_same(&batch_in, "a batch changes its input", f, inputs);
     expect_same(&batch_out, "a batch's output", f, start);
     return refusal;
+}
+
+/* A batch that cannot be made: it says so whatever else is wrong, reports no work, and changes nothing. */
+static void misused_batch(const void *input, size_t inputs, void *output, size_t outputs)
+{
+    uint16_t f = (uint16_t)below(12);
+    size_t start = (size_t)below(inputs + 2), next = ~start, nars = 7;
+    size_t *next_place = perhaps(&next), *nars_place = perhaps(&nars);
+    keep(&batch_out);
+    expect(balehasp_batch(f, input, inputs, output, outputs, start, 5, next_place, nars_place) == BALEHASP_MISUSED, "a batch that cannot be made", inputs, outputs);
+    expect((!next_place || next == start) && (!nars_place || nars == 0), "a batch that cannot be made reports work", next, nars);
+    expect_same(&batch_out, "a batch that cannot be made writes", inputs, outputs);
+}
+
+/* Overlaps other than the same place, odd addresses, null pointers, lengths that nothing can have. Returns how many. */
+static unsigned misused_batches(void)
+{
+    _Static_assert(BALEHASP_MISUSED > BALEHASP_REFUSED_AFTER, "no refusal's number");
+    unsigned count = 0;
+    uint8_t *whole = place(&batch_out, 400, true);
+    for (size_t n = 1; n <= 40; n++) {
+        uint16_t *first = (uint16_t *)(void *)whole; /* neighbours do not overlap */
+        expect(balehasp_batch(1, first, n, first + n, n, 0, n, NULL, NULL) == 0, "an output right after the input", n, 0);
+        expect(balehasp_batch(1, first + n, n, first, n, 0, n, NULL, NULL) == 0, "an input right after the output", n, 0);
+        for (size_t m = 1; m <= 40; m++) {
+            for (size_t by = 1; by < n; by++, count++) /* the output begins inside the input */
+                misused_batch(whole, n, whole + 2 * by, m);
+            for (size_t by = 1; by < m; by++, count++) /* the input begins inside the output */
+                misused_batch(whole + 2 * by, n, whole, m);
+        }
+        misused_batch(whole + 1, n, whole + 200, n);
+        misused_batch(whole, n, whole + 201, n);
+        misused_batch(whole + 1, n, whole + 1, n);
+        misused_batch(NULL, n, whole, n);
+        misused_batch(whole, n, NULL, n);
+        misused_batch(NULL, n, NULL, n);
+        misused_batch(whole, PTRDIFF_MAX / 2 + n, whole + 200, n);
+        misused_batch(whole, n, whole + 200, SIZE_MAX - n);
+        misused_batch(whole, n, (void *)(UINTPTR_MAX - 1), n);
+        count += 9;
+    }
+    return count;
+}
+
+/* Places for results that lie in the buffers, or in one another: they are written after the answers, the last named last. */
+static void results_in_the_buffers(void)
+{
+    size_t word[2] = {0, 0}, one = 1, two = 2;
+    uint16_t *patterns = (uint16_t *)(void *)word;
+    const uint16_t in[] = {BALEHASP_NAR, 0x4000}, out[] = {BALEHASP_NAR, 0};
+    memcpy(patterns, in, sizeof in);
+    expect(balehasp_batch(BALEHASP_LN, patterns, 2, patterns + sizeof two / 2, 2, 0, 2, word, word) == 0, "results in one place", 0, 0);
+    expect(memcmp(word, &one, sizeof one) == 0 && memcmp(word + 1, out, sizeof out) == 0, "the count of NaR comes last", 0, 0);
+    memcpy(patterns, in, sizeof in);
+    expect(balehasp_batch(BALEHASP_LN, patterns, 2, patterns, 2, 0, 2, word, NULL) == 0, "a result in the output", 0, 0);
+    expect(memcmp(word, &two, sizeof two) == 0, "the next place comes after the answers", 0, 0);
+    double edges[2];
+    expect(balehasp_span(0x4000, edges, edges) && edges[0] > 1, "the upper edge comes last", 0, 0);
 }
 
 static uint16_t some_function(void)
@@ -169,10 +255,16 @@ static void batches(void)
     batch_in = guarded(4096);
     batch_out = guarded(4096);
     /* the refusals, each alone and where several would be given */
-    expect(one_batch(0, 4, 4, 0, 4) == 1 && one_batch(11, 4, 3, 5, 0) == 1, "refusal 1 is first", 0, 0);
-    expect(one_batch(1, 4, 3, 0, 4) == 2 && one_batch(1, 4, 3, 5, 0) == 2, "refusal 2 is second", 0, 0);
-    expect(one_batch(1, 4, 4, 5, 4) == 3 && one_batch(1, 4, 4, 5, 0) == 3, "refusal 3, also at limit 0", 0, 0);
-    expect(one_batch(1, 4, 4, 4, 4) == 0 && one_batch(1, 0, 0, 0, 1) == 0 && one_batch(10, 4, 9, 1, 0) == 0, "no refusal", 0, 0);
+    for (int b = 0; b < 2; b++) {
+        expect(one_batch(0, 4, 4, 0, 4, b) == 1 && one_batch(11, 4, 3, 5, 0, b) == 1, "refusal 1 is first", 0, 0);
+        expect(one_batch(1, 4, 3, 0, 4, b) == 2 && one_batch(1, 4, 3, 5, 0, b) == 2, "refusal 2 is second", 0, 0);
+        expect(one_batch(1, 4, 4, 5, 4, b) == 3 && one_batch(1, 4, 4, 5, 0, b) == 3, "refusal 3, also at limit 0", 0, 0);
+        expect(one_batch(1, 4, 4, 4, 4, b) == 0 && one_batch(1, 0, 0, 0, 1, b) == 0 && one_batch(10, 4, 9, 1, 0, b) == 0, "no refusal", 0, 0);
+    }
+    for (int i = 0; i < 100; i++) /* no input, no output, neither, in every way of saying so */
+        expect(one_batch(1, 0, 0, 0, 1, false) == 0 && one_batch(1, 0, 3, 0, 1, i % 2) == 0 && one_batch(1, 3, 0, 0, 1, i % 2) == 2, "an empty buffer", 0, 0);
+    results_in_the_buffers();
+    printf("%u batches that cannot be made: told, nothing written\n", misused_batches());
     /* each call starts where the last one ended: n patterns in n / limit calls, rounded up */
     for (size_t n = 0; n <= 40; n++) {
         for (size_t limit = 1; limit <= n + 1; limit++) {
@@ -191,14 +283,17 @@ static void batches(void)
                 expect(output[i] == answers[3][input[i]], "an answer after calls in a row", n, i);
         }
     }
-    unsigned refusals[4] = {0};
-    for (int i = 0; i < ROUNDS; i++) {
+    unsigned refusals[4] = {0}, in_place = 0;
+    for (unsigned i = 0; i < rounds; i++) {
         size_t inputs = (size_t)(below(50) ? below(40) : below(2000));
         size_t outputs = below(8) ? inputs + (size_t)below(4) : (size_t)below(inputs + 2);
         size_t start = below(8) ? (size_t)below(inputs + 1) : below(4) ? inputs + (size_t)below(3) : (size_t)noise();
-        refusals[one_batch(some_function(), inputs, outputs, start, some_limit(start))]++;
+        bool same = !below(3);
+        in_place += same;
+        refusals[one_batch(some_function(), inputs, outputs, start, some_limit(start), same)]++;
     }
-    printf("%d random batches as the model's; refused by 1, 2, 3: %u, %u, %u\n", ROUNDS, refusals[1], refusals[2], refusals[3]);
+    printf("%u random batches as the model's, %u of them in place; refused by 1, 2, 3: %u, %u, %u\n", rounds, in_place,
+           refusals[1], refusals[2], refusals[3]);
 }
 
 /* ---- the listing */
@@ -217,27 +312,27 @@ static uint16_t model_listing(const uint8_t *in, size_t length, size_t room, uin
 {
     *written = 0;
     if (length < 2)
-        return 4;
+        return BALEHASP_REFUSED_CUT;
     size_t functions = number_at(in, 0);
     if (functions < 1 || functions > 10)
-        return 5;
+        return BALEHASP_REFUSED_LIMITS;
     if (length < 2 + 2 * functions)
-        return 4;
+        return BALEHASP_REFUSED_CUT;
     for (size_t i = 0; i < functions; i++)
         if (number_at(in, 2 + 2 * i) < 1 || number_at(in, 2 + 2 * i) > FUNCTIONS)
-            return 1;
+            return BALEHASP_REFUSED_FUNCTION;
     size_t from = 2 + 2 * functions + 2;
     if (length < from)
-        return 4;
+        return BALEHASP_REFUSED_CUT;
     size_t patterns = number_at(in, from - 2);
     if (patterns > 1024)
-        return 5;
+        return BALEHASP_REFUSED_LIMITS;
     if (length < from + 2 * patterns)
-        return 4;
+        return BALEHASP_REFUSED_CUT;
     if (length > from + 2 * patterns)
-        return 6;
+        return BALEHASP_REFUSED_AFTER;
     if (room < length + 2 + 2 * functions * patterns)
-        return 2;
+        return BALEHASP_REFUSED_OUTPUT;
     memcpy(out, in, length);
     size_t at = put(out, length, (uint16_t)(functions * patterns));
     for (size_t i = 0; i < functions; i++)
@@ -247,24 +342,67 @@ static uint16_t model_listing(const uint8_t *in, size_t length, size_t room, uin
     return 0;
 }
 
-static Guarded listing_in, listing_out;
 static uint8_t model_out[32768];
 
-static uint16_t one_listing(const uint8_t *bytes, size_t length, size_t room)
+/* One listing with buffers of its own, or with an input and an output that overlap. Comparing all of a buffer takes time, so a
+ * small one serves where it has room. */
+static uint16_t one_listing(const uint8_t *bytes, size_t length, size_t room, bool overlap)
 {
-    uint8_t *input = place(&listing_in, length, below(2)), *output = place(&listing_out, room, below(2));
-    size_t written = (size_t)noise(), wanted;
+    static Guarded inputs, small, large;
+    if (!small.bytes) {
+        inputs = guarded(4096);
+        small = guarded(4096);
+        large = guarded(32768);
+    }
+    Guarded *outputs = room + length + 64 <= small.size ? &small : &large;
+    bool input_first = below(2);
+    size_t less = smaller(length, room), both = length + room - less + (overlap && less ? (size_t)below(less) : 0);
+    uint8_t *output = place(outputs, overlap ? both : room, below(2));
+    uint8_t *input = !overlap ? place(&inputs, length, below(2)) : input_first ? output : output + both - length;
+    if (overlap && input_first)
+        output += both - room;
     memcpy(input, bytes, length);
-    keep(&listing_in);
-    keep(&listing_out);
+    size_t written = (size_t)noise(), wanted, *written_place = perhaps(&written);
+    keep(&inputs);
+    keep(outputs);
     uint16_t refusal = model_listing(bytes, length, room, model_out, &wanted);
-    memcpy(listing_out.before + (output - listing_out.bytes), model_out, wanted);
-    uint16_t said = balehasp_listing(input, length, output, room, &written);
+    memcpy(outputs->before + (output - outputs->bytes), model_out, wanted);
+    uint16_t said = balehasp_listing(length || below(2) ? input : NULL, length, room || below(2) ? output : NULL, room, written_place);
     expect(said == refusal, "a listing's refusal", said, refusal);
-    expect(written == wanted, "how many bytes a listing writes", written, wanted);
-    expect_same(&listing_in, "a listing changes its input", length, room);
-    expect_same(&listing_out, "a listing's output", length, room);
+    expect(!written_place || written == wanted, "how many bytes a listing writes", written, wanted);
+    expect_same(&inputs, "a listing changes its input", length, room);
+    expect_same(outputs, "a listing's output", length, room);
     return refusal;
+}
+
+/* The longest listing, in exactly the room that the header names and in one byte less. */
+static void longest_listing(uint8_t *bytes)
+{
+    size_t at = put(bytes, 0, FUNCTIONS);
+    for (uint16_t f = 1; f <= FUNCTIONS; f++)
+        at = put(bytes, at, f);
+    at = put(bytes, at, 1024);
+    for (int i = 0; i < 1024; i++)
+        at = put(bytes, at, (uint16_t)noise());
+    expect(at == BALEHASP_LONGEST_LISTING, "the length of the longest listing", at, 0);
+    for (int overlap = 0; overlap < 2; overlap++) {
+        expect(one_listing(bytes, at, BALEHASP_LONGEST_ANSWERED, overlap) == 0, "the longest listing in its room", at, 0);
+        expect(one_listing(bytes, at, BALEHASP_LONGEST_ANSWERED - 1, overlap) == BALEHASP_REFUSED_OUTPUT, "the longest listing in one byte less", at, 0);
+        for (size_t more = 1; more < 1000; more++) {
+            bytes[at + more - 1] = (uint8_t)noise();
+            expect(one_listing(bytes, at + more, BALEHASP_LONGEST_ANSWERED, overlap) == BALEHASP_REFUSED_AFTER, "bytes after the longest listing", more, 0);
+        }
+    }
+    static uint8_t exactly[BALEHASP_LONGEST_ANSWERED];
+    size_t written = 0;
+    expect(balehasp_listing(bytes, at, exactly, sizeof exactly, &written) == 0 && written == sizeof exactly, "the longest answered listing", written, 0);
+    puts("the longest listing: answered in exactly its room, refused in one byte less");
+}
+
+static void misused_listing(const uint8_t *input, size_t length, uint8_t *output, size_t room)
+{
+    size_t written = 7;
+    expect(balehasp_listing(input, length, output, room, &written) == BALEHASP_MISUSED && written == 0, "a listing that cannot be made", length, room);
 }
 
 static size_t some_listing(uint8_t *bytes)
@@ -298,8 +436,6 @@ static size_t damage(uint8_t *bytes, size_t length)
 static void listings(void)
 {
     static uint8_t bytes[4096];
-    listing_in = guarded(4096);
-    listing_out = guarded(4096);
     static const uint8_t in[] = {1, 0, 2, 0, 2, 0, 0x00, 0x40, 0x00, 0x80};
     static const uint8_t out[] = {1, 0, 2, 0, 2, 0, 0x00, 0x40, 0x00, 0x80, 2, 0, 0x00, 0x50, 0x00, 0x80};
     uint8_t got[sizeof out];
@@ -307,33 +443,31 @@ static void listings(void)
     expect(balehasp_listing(in, sizeof in, got, sizeof got, &written) == 0 && written == sizeof out && memcmp(got, out, sizeof out) == 0, "the whole case of document 01", 0, 0);
     /* the whole case cut at each place, lengthened, and with an output that is too short by one */
     for (size_t n = 0; n < sizeof in; n++)
-        expect(one_listing(in, n, 64) == 4, "a listing that is cut short", n, 0);
+        for (size_t room = 0; room < 64; room++)
+            expect(one_listing(in, n, room, room % 2) == 4, "a listing that is cut short", n, room);
     memcpy(bytes, in, sizeof in);
-    expect(one_listing(bytes, sizeof in + 1, 0) == 6, "6 comes before 2", 0, 0);
-    expect(one_listing(in, sizeof in, sizeof out - 1) == 2 && one_listing(in, sizeof in, sizeof out) == 0, "the shortest output", 0, 0);
+    expect(one_listing(bytes, sizeof in + 1, 0, false) == 6, "6 comes before 2", 0, 0);
+    expect(one_listing(in, sizeof in, sizeof out - 1, false) == 2 && one_listing(in, sizeof in, sizeof out, false) == 0, "the shortest output", 0, 0);
+    longest_listing(bytes);
+    misused_listing(NULL, 1, bytes, sizeof bytes);
+    misused_listing(in, sizeof in, NULL, 1);
+    misused_listing(in, SIZE_MAX, bytes, sizeof bytes);
+    misused_listing(in, sizeof in, bytes, (size_t)PTRDIFF_MAX + 1);
+    misused_listing((const uint8_t *)UINTPTR_MAX, 1, bytes, sizeof bytes);
 
-    unsigned refusals[7] = {0};
-    for (int i = 0; i < ROUNDS; i++) {
+    unsigned refusals[7] = {0}, overlaps = 0;
+    for (unsigned i = 0; i < rounds; i++) {
         size_t length = some_listing(bytes), wanted;
         if (below(2))
             length = damage(bytes, length);
         model_listing(bytes, length, SIZE_MAX, model_out, &wanted);
         size_t room = below(6) ? wanted + (size_t)below(9) : (size_t)below(wanted + 1);
-        if (listing_out.size < room + 64)
-            listing_out = guarded(32768);
-        refusals[one_listing(bytes, length, room)]++;
-        if (listing_out.size > 4096) { /* a small one again, so that comparing all of it stays quick */
-            static Guarded small;
-            if (!small.bytes)
-                small = guarded(4096);
-            Guarded large = listing_out;
-            listing_out = small;
-            munmap(large.bytes, large.size);
-            free(large.before);
-        }
+        bool overlap = !below(3);
+        overlaps += overlap && length && room;
+        refusals[one_listing(bytes, length, room, overlap)]++;
     }
-    printf("%d random and damaged listings as the model's; refused by 1, 2, 4, 5, 6: %u, %u, %u, %u, %u\n", ROUNDS,
-           refusals[1], refusals[2], refusals[4], refusals[5], refusals[6]);
+    printf("%u random and damaged listings as the model's, %u of them overlapping; refused by 1, 2, 4, 5, 6: %u, %u, %u, %u, %u\n",
+           rounds, overlaps, refusals[1], refusals[2], refusals[4], refusals[5], refusals[6]);
 }
 
 /* ---- reals and spans */
@@ -399,10 +533,12 @@ static void reals(void)
             one_real(nextafter(from[i], -INFINITY));
         }
     }
+    expect(balehasp_to_f64(0x4000, NULL) && !balehasp_to_f64(BALEHASP_NAR, NULL), "no place for the real", 0, 0);
+    expect(balehasp_span(0x4000, NULL, NULL) && !balehasp_span(BALEHASP_NAR, NULL, NULL), "no place for the edges", 0, 0);
     double ends[] = {0.0, -0.0, INFINITY, -INFINITY, NAN, -NAN, 5e-324, -5e-324, 1.7976931348623157e308, -1.7976931348623157e308};
     for (size_t i = 0; i < sizeof ends / sizeof *ends; i++)
         one_real(ends[i]);
-    for (int i = 0; i < ROUNDS; i++) {
+    for (unsigned i = 0; i < rounds; i++) {
         uint64_t bits = noise();
         if (below(4)) /* most of them within the posits' range */
             bits = (bits & 0x800FFFFFFFFFFFFFu) | (1023 - 32 + below(64)) << 52;
@@ -410,7 +546,7 @@ static void reals(void)
         memcpy(&x, &bits, sizeof x);
         one_real(x);
     }
-    printf("65536 patterns to f64 and their spans, and %d numbers from f64: as the rule's\n", 65535 * 9 + 10 + ROUNDS);
+    printf("65536 patterns to f64 and their spans, and %u numbers from f64: as the rule's\n", 65535 * 9 + 10 + rounds);
 }
 
 static void read_answers(const char *path)
@@ -429,12 +565,14 @@ static void read_answers(const char *path)
 
 int main(int words, char **word)
 {
-    if (words < 2 || words > 3) {
-        fputs("usage: outside ANSWERS [SEED]\n", stderr);
+    if (words != 4) {
+        fputs("usage: outside ANSWERS ROUNDS SEED\n", stderr);
         return 2;
     }
-    state = words == 3 ? strtoull(word[2], NULL, 0) : 20261115;
-    printf("seed %" PRIu64 "\n", state);
+    setvbuf(stdout, NULL, _IOLBF, BUFSIZ); /* a run through an emulator takes its time and shows how far it is */
+    rounds = (unsigned)strtoul(word[2], NULL, 10);
+    state = strtoull(word[3], NULL, 0);
+    printf("version %s, %u rounds, seed %" PRIu64 "\n", BALEHASP_VERSION, rounds, state);
     read_answers(word[1]);
     each_function();
     batches();

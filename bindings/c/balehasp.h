@@ -3,25 +3,35 @@
  * A posit is passed as its pattern, a uint16_t. 0x0000 is zero and 0x8000 is NaR ("not a real"). NaR is an answer and not an
  * error: ln of a negative number is NaR, and a call that answers it has succeeded.
  *
- * A call that can be refused returns the number of its refusal, and 0 where it was not refused:
+ * A call that can be refused returns the number of its refusal, 0 where it was not refused. That result is never the answer,
+ * though both are uint16_t: the answer is written through a pointer. A refused call leaves the output as it was.
  *
- *   1  a function number outside 1 to 10
- *   2  the output is too short
- *   3  the start lies beyond the input
- *   4  a listing is cut short
- *   5  a count of a listing is outside its limits
- *   6  bytes after a listing's patterns
+ * A place for a result may be NULL where the caller does not want it. Where a length is 0 its pointer is not looked at, so
+ * NULL will do. Where input and output may overlap, the call says so. What no call can test is the caller's to see to: a
+ * pointer points to as many items as its length says, and a place for a result is one.
  *
- * A refused call leaves the output as it was. Every number that is passed is tested. What no call can test is the caller's to
- * see to: each pointer points to as many items as its length says and is aligned for them; it is not null, not even where the
- * length is 0; and no two places that are written, and no written place and an input, overlap. No call allocates, blocks or
- * keeps a pointer. There is no state, so threads may call at once. */
+ * No call allocates, blocks or keeps a pointer. There is no state, so threads may call at once. */
 #ifndef BALEHASP_H
 #define BALEHASP_H
 
 #include <stdbool.h>
 #include <stddef.h>
 #include <stdint.h>
+#include <string.h>
+
+#define BALEHASP_VERSION_MAJOR 0
+#define BALEHASP_VERSION_MINOR 2
+#define BALEHASP_VERSION_PATCH 0
+#define BALEHASP_VERSION "0.2.0"
+
+/* Has the compiler warn where a result is dropped. */
+#if (defined __cplusplus && __cplusplus >= 201703L) || (defined __STDC_VERSION__ && __STDC_VERSION__ > 201710L)
+#define BALEHASP_MUST_USE [[nodiscard]]
+#elif defined __GNUC__
+#define BALEHASP_MUST_USE __attribute__((warn_unused_result))
+#else
+#define BALEHASP_MUST_USE
+#endif
 
 #ifdef __cplusplus
 extern "C" {
@@ -43,28 +53,49 @@ enum {
     BALEHASP_ACOS_PI = 10
 };
 
+/* The refusals' numbers. */
+enum {
+    BALEHASP_REFUSED_FUNCTION = 1, /* a function number outside 1 to 10 */
+    BALEHASP_REFUSED_OUTPUT = 2,   /* the output is too short */
+    BALEHASP_REFUSED_START = 3,    /* the start lies beyond the input */
+    BALEHASP_REFUSED_CUT = 4,      /* a count or a section of a listing is cut short */
+    BALEHASP_REFUSED_LIMITS = 5,   /* a count of a listing is outside its limits */
+    BALEHASP_REFUSED_AFTER = 6     /* bytes after a listing's patterns */
+};
+
+/* No refusal, but a call that cannot be made: NULL with a length above 0, a pointer that is not aligned for its items, more
+ * bytes than an object can have or than there are addresses, or an overlap that the call does not allow. Like a refused call
+ * it does nothing. It goes before every refusal. */
+#define BALEHASP_MISUSED ((uint16_t)0xFFFF)
+
+/* The bytes of the longest listing, ten functions and 1,024 patterns, and of the longest answered one. */
+#define BALEHASP_LONGEST_LISTING 2072
+#define BALEHASP_LONGEST_ANSWERED 22554
+
 /* The function of the posit p, for every pattern p. The circular functions take and give half-turns: sin_pi(x) is the sine of
  * pi times x, and asin_pi(x) the angle over pi. */
-uint16_t balehasp_exp(uint16_t p);
-uint16_t balehasp_exp2(uint16_t p);
-uint16_t balehasp_ln(uint16_t p);
-uint16_t balehasp_log2(uint16_t p);
-uint16_t balehasp_sin_pi(uint16_t p);
-uint16_t balehasp_cos_pi(uint16_t p);
-uint16_t balehasp_tan_pi(uint16_t p);
-uint16_t balehasp_atan_pi(uint16_t p);
-uint16_t balehasp_asin_pi(uint16_t p);
-uint16_t balehasp_acos_pi(uint16_t p);
+BALEHASP_MUST_USE uint16_t balehasp_exp(uint16_t p);
+BALEHASP_MUST_USE uint16_t balehasp_exp2(uint16_t p);
+BALEHASP_MUST_USE uint16_t balehasp_ln(uint16_t p);
+BALEHASP_MUST_USE uint16_t balehasp_log2(uint16_t p);
+BALEHASP_MUST_USE uint16_t balehasp_sin_pi(uint16_t p);
+BALEHASP_MUST_USE uint16_t balehasp_cos_pi(uint16_t p);
+BALEHASP_MUST_USE uint16_t balehasp_tan_pi(uint16_t p);
+BALEHASP_MUST_USE uint16_t balehasp_atan_pi(uint16_t p);
+BALEHASP_MUST_USE uint16_t balehasp_asin_pi(uint16_t p);
+BALEHASP_MUST_USE uint16_t balehasp_acos_pi(uint16_t p);
 
-/* The function with that number, of p: writes the answer to *answer and returns 0. Refusal: 1, with *answer as it was. */
-uint16_t balehasp_answer(uint16_t function, uint16_t p, uint16_t *answer);
+/* The function with that number, of p: writes the answer to *answer and returns 0. Refusal: 1, with *answer as it was, which
+ * is stale then. */
+BALEHASP_MUST_USE uint16_t balehasp_answer(uint16_t function, uint16_t p, uint16_t *answer);
 
 /* Answers the patterns input[start], input[start + 1], .. one after the other, at most `limit` of them and none past the
  * input's end, each at the same place of `output`, which is at least as long as the input. No other place of the output
  * changes. Writes to *next the place after the last answered, where the next call starts, and to *nars how many of the answers
  * of this call are NaR. A limit of 0 answers nothing and is no refusal.
- * Refusals, in this order: 1, 2, 3; then *next is `start` and *nars is 0. */
-uint16_t balehasp_batch(
+ * Refusals, in this order: 1, 2, 3; then *next is `start` and *nars is 0.
+ * `output` may be `input`: then each answer takes its pattern's place. Any other overlap of the two is BALEHASP_MISUSED. */
+BALEHASP_MUST_USE uint16_t balehasp_batch(
     uint16_t function,
     const uint16_t *input, size_t input_length,
     uint16_t *output, size_t output_length,
@@ -74,21 +105,158 @@ uint16_t balehasp_batch(
 /* Reads a listing, `input_length` bytes, and writes the answered one into the first bytes of `output`; *written is how many
  * they are, and the bytes after them stay as they were. All numbers are 16 bits, low byte first. A listing is a count of
  * functions (1 to 10) and their numbers, then a count of patterns (0 to 1,024) and the patterns; the answered one has after
- * that the count of answers and the answers, all of the first function's, then the next's. The longest answered listing has
- * 22,552 bytes.
- * Refusals: 4, 5 and 1 as the sections are read, then 6, then 2; then *written is 0. */
-uint16_t balehasp_listing(const uint8_t *input, size_t input_length, uint8_t *output, size_t output_length, size_t *written);
+ * that the count of answers and the answers, all of the first function's, then the next's.
+ * Refusals: 4, 5 and 1 as the sections are read, then 6, then 2; then *written is 0.
+ * Input and output may overlap: the stack has room for a copy of the input, some 2,100 bytes. */
+BALEHASP_MUST_USE uint16_t balehasp_listing(
+    const uint8_t *input, size_t input_length,
+    uint8_t *output, size_t output_length,
+    size_t *written);
 
 /* Whether p is a real number; if so, writes to *real exactly that number, +0.0 for zero. NaR is no real number: then the result
- * is false, and *real as it was. */
-bool balehasp_to_f64(uint16_t p, double *real);
+ * is false and *real stays as it was, so whoever does not look at the result goes on with the number of the call before. */
+BALEHASP_MUST_USE bool balehasp_to_f64(uint16_t p, double *real);
 
 /* The posit that x rounds to. A NaN and both infinities give NaR, both zeros 0, and no other number rounds to 0 or NaR. */
-uint16_t balehasp_from_f64(double x);
+BALEHASP_MUST_USE uint16_t balehasp_from_f64(double x);
 
 /* Whether p has a span; if so, writes its edges: the numbers of the posits of 17 bits next below and next above p. NaR has
- * none: then the result is false, and both places as they were. */
-bool balehasp_span(uint16_t p, double *lower, double *upper);
+ * none: then the result is false, and both places stay as they were, stale like *real.
+ * The numbers that round to p are those between its edges, and the edges where p is even; but not at five patterns. All
+ * numbers from the outer edge of 0x7FFF or 0x8001 outward, and all between 0 and the inner edge of 0x0001 or 0xFFFF, that edge
+ * too, round to that pattern as well: 2^-40 rounds to 0x0001 and lies outside its span. In the span of 0 only 0 itself rounds
+ * to 0. */
+BALEHASP_MUST_USE bool balehasp_span(uint16_t p, double *lower, double *upper);
+
+/* ---- The calls with pointers as C makes them.
+ *
+ * The entries above are proved for lent places that exist, are aligned and do not overlap. The functions below see to that, or
+ * say BALEHASP_MISUSED, and call the entry; from here on the entry's name stands for them. They are not proved: tests/outside.c
+ * tests them. */
+
+/* Writes a result where the caller wants it, byte by byte, since the place may be anything. */
+static inline void balehasp_give(void *place, const void *result, size_t size)
+{
+    if (place)
+        memcpy(place, result, size);
+}
+
+/* Whether `length` items of `size` bytes can lie at `at`. */
+static inline bool balehasp_can_lie(const void *at, size_t length, size_t size)
+{
+    return length == 0 || (at && (uintptr_t)at % size == 0 && length <= PTRDIFF_MAX / size
+                           && length * size <= UINTPTR_MAX - (uintptr_t)at);
+}
+
+static inline bool balehasp_overlap(const void *a, size_t a_bytes, const void *b, size_t b_bytes)
+{
+    uintptr_t p = (uintptr_t)a, q = (uintptr_t)b;
+    return a_bytes && b_bytes && (p <= q ? q - p < a_bytes : p - q < b_bytes);
+}
+
+BALEHASP_MUST_USE static inline uint16_t balehasp_answer_checked(uint16_t function, uint16_t p, uint16_t *answer)
+{
+    uint16_t found = 0, refusal = balehasp_answer(function, p, &found);
+    if (refusal == 0)
+        balehasp_give(answer, &found, sizeof found);
+    return refusal;
+}
+
+/* A batch whose answers take the patterns' places. Each piece of the patterns is copied first, so that what is lent to be read
+ * is not lent to be written. The entry tests the function's number; the lengths are never lent as a whole and are tested here. */
+static inline uint16_t balehasp_batch_in_place(
+    uint16_t function, uint16_t *patterns, size_t input_length, size_t output_length, size_t start, size_t limit,
+    size_t *next, size_t *nars)
+{
+    uint16_t piece[64] = {0}, none = 0;
+    size_t left = 0, done = 0, found = 0;
+    uint16_t refusal = balehasp_batch(function, piece, 0, &none, 0, 0, 0, &done, &found);
+    if (refusal == 0 && output_length < input_length)
+        refusal = BALEHASP_REFUSED_OUTPUT;
+    else if (refusal == 0 && input_length < start)
+        refusal = BALEHASP_REFUSED_START;
+    else if (refusal == 0)
+        left = limit < input_length - start ? limit : input_length - start;
+    for (; left > 0; left -= done) {
+        size_t n = left < 64 ? left : 64;
+        memcpy(piece, patterns + *next, n * sizeof *piece);
+        refusal = balehasp_batch(function, piece, n, patterns + *next, n, 0, n, &done, &found);
+        *next += done;
+        *nars += found;
+    }
+    return refusal;
+}
+
+BALEHASP_MUST_USE static inline uint16_t balehasp_batch_checked(
+    uint16_t function,
+    const uint16_t *input, size_t input_length,
+    uint16_t *output, size_t output_length,
+    size_t start, size_t limit,
+    size_t *next, size_t *nars)
+{
+    uint16_t no_input = 0, no_output = 0, refusal = BALEHASP_MISUSED;
+    size_t after = start, found = 0;
+    if (balehasp_can_lie(input, input_length, sizeof *input) && balehasp_can_lie(output, output_length, sizeof *output)) {
+        if (!balehasp_overlap(input, input_length * sizeof *input, output, output_length * sizeof *output))
+            refusal = balehasp_batch(
+                function, input_length ? input : &no_input, input_length, output_length ? output : &no_output, output_length,
+                start, limit, &after, &found);
+        else if (input == output)
+            refusal = balehasp_batch_in_place(function, output, input_length, output_length, start, limit, &after, &found);
+    }
+    balehasp_give(next, &after, sizeof after);
+    balehasp_give(nars, &found, sizeof found);
+    return refusal;
+}
+
+/* Where the two overlap the input is copied. What is longer than every listing is refused for its first bytes, as many as the
+ * longest listing has and one more (first-bytes-decide, crates/listing/proofs/Prefix.antt), so no more is copied. */
+BALEHASP_MUST_USE static inline uint16_t balehasp_listing_checked(
+    const uint8_t *input, size_t input_length,
+    uint8_t *output, size_t output_length,
+    size_t *written)
+{
+    uint8_t copy[BALEHASP_LONGEST_LISTING + 1], no_input = 0, no_output = 0;
+    uint16_t refusal = BALEHASP_MISUSED;
+    size_t bytes = 0;
+    if (balehasp_can_lie(input, input_length, 1) && balehasp_can_lie(output, output_length, 1)) {
+        if (balehasp_overlap(input, input_length, output, output_length)) {
+            input_length = input_length < sizeof copy ? input_length : sizeof copy;
+            memcpy(copy, input, input_length);
+            input = copy;
+        }
+        refusal = balehasp_listing(
+            input_length ? input : &no_input, input_length, output_length ? output : &no_output, output_length, &bytes);
+    }
+    balehasp_give(written, &bytes, sizeof bytes);
+    return refusal;
+}
+
+BALEHASP_MUST_USE static inline bool balehasp_to_f64_checked(uint16_t p, double *real)
+{
+    double number = 0;
+    bool is_real = balehasp_to_f64(p, &number);
+    if (is_real)
+        balehasp_give(real, &number, sizeof number);
+    return is_real;
+}
+
+BALEHASP_MUST_USE static inline bool balehasp_span_checked(uint16_t p, double *lower, double *upper)
+{
+    double below = 0, above = 0;
+    bool has_span = balehasp_span(p, &below, &above);
+    if (has_span) {
+        balehasp_give(lower, &below, sizeof below);
+        balehasp_give(upper, &above, sizeof above);
+    }
+    return has_span;
+}
+
+#define balehasp_answer balehasp_answer_checked
+#define balehasp_batch balehasp_batch_checked
+#define balehasp_listing balehasp_listing_checked
+#define balehasp_to_f64 balehasp_to_f64_checked
+#define balehasp_span balehasp_span_checked
 
 #ifdef __cplusplus
 }

@@ -3,31 +3,64 @@
 //! A posit is passed as its pattern, a `u16`. `0x0000` is zero and [`NAR`] is NaR ("not a real"). NaR is an answer and not an
 //! error: `ln` of a negative number is NaR, and a call that answers it has succeeded. What a call can refuse is a [`Refusal`];
 //! a refused call leaves the output as it was.
+//!
+//! ```
+//! use balehasp::{exp2, from_f64, to_f64, Real, NAR};
+//!
+//! assert_eq!(to_f64(exp2(from_f64(-6.0))), Real::Real(0.015625));
+//! assert_eq!(to_f64(exp2(NAR)), Real::NaR);
+//! ```
+//!
+//! A result that is dropped is warned of:
+//!
+//! ```compile_fail
+//! #![deny(unused_must_use)]
+//! balehasp::exp2(0x4000);
+//! ```
 #![no_std]
 #![warn(missing_docs)]
 
+use core::fmt;
+
+/// The version, which is also the header's.
+///
+/// ```
+/// assert_eq!(balehasp::VERSION.split('.').count(), 3);
+/// ```
+pub const VERSION: &str = env!("CARGO_PKG_VERSION");
+
 /// The pattern of NaR.
+///
+/// ```
+/// assert_eq!(balehasp::from_f64(f64::NAN), balehasp::NAR);
+/// ```
 pub const NAR: u16 = 0x8000;
 
-/// The functions by their numbers: `Function::Ln as u16` is what [`answer`] and [`batch`] take.
-#[derive(Clone, Copy, Debug, PartialEq, Eq)]
-#[repr(u16)]
-#[allow(missing_docs)]
-pub enum Function {
-    Exp = 1,
-    Exp2 = 2,
-    Ln = 3,
-    Log2 = 4,
-    SinPi = 5,
-    CosPi = 6,
-    TanPi = 7,
-    AtanPi = 8,
-    AsinPi = 9,
-    AcosPi = 10,
-}
+/// The bytes of the longest listing: ten functions and 1,024 patterns.
+///
+/// ```
+/// assert_eq!(balehasp::LONGEST_LISTING, 2 + 2 * 10 + 2 + 2 * 1024);
+/// ```
+pub const LONGEST_LISTING: usize = 2072;
+
+/// The bytes of the longest answered listing.
+///
+/// ```
+/// use balehasp::{LONGEST_ANSWERED, LONGEST_LISTING};
+/// assert_eq!(LONGEST_ANSWERED, LONGEST_LISTING + 2 + 2 * 10 * 1024);
+/// ```
+pub const LONGEST_ANSWERED: usize = 22554;
 
 /// Why a call was refused, with the refusals' numbers.
-#[derive(Clone, Copy, Debug, PartialEq, Eq)]
+///
+/// ```
+/// use balehasp::Refusal;
+/// assert_eq!(Refusal::Start.number(), 3);
+/// assert_eq!(Refusal::Start.to_string(), "the start lies beyond the input");
+/// let error: &dyn std::error::Error = &Refusal::Start;
+/// assert!(error.source().is_none());
+/// ```
+#[derive(Clone, Copy, Debug, PartialEq, Eq, Hash)]
 #[repr(u16)]
 pub enum Refusal {
     /// A function number outside 1 to 10.
@@ -36,7 +69,7 @@ pub enum Refusal {
     Output = 2,
     /// The start lies beyond the input.
     Start = 3,
-    /// A listing is cut short.
+    /// A count or a section of a listing is cut short.
     Cut = 4,
     /// A count of a listing is outside its limits.
     Limits = 5,
@@ -44,7 +77,187 @@ pub enum Refusal {
     After = 6,
 }
 
+impl Refusal {
+    /// The refusal's number.
+    ///
+    /// ```
+    /// assert_eq!(balehasp::Refusal::After.number(), 6);
+    /// ```
+    #[must_use]
+    pub const fn number(self) -> u16 {
+        self as u16
+    }
+
+    fn unless<T>(number: u16, done: T) -> Result<T, Refusal> {
+        match number {
+            0 => Ok(done),
+            1 => Err(Refusal::Function),
+            2 => Err(Refusal::Output),
+            3 => Err(Refusal::Start),
+            4 => Err(Refusal::Cut),
+            5 => Err(Refusal::Limits),
+            _ => Err(Refusal::After), // 6: there are no others
+        }
+    }
+}
+
+impl fmt::Display for Refusal {
+    fn fmt(&self, f: &mut fmt::Formatter<'_>) -> fmt::Result {
+        f.write_str(match self {
+            Refusal::Function => "a function number outside 1 to 10",
+            Refusal::Output => "the output is too short",
+            Refusal::Start => "the start lies beyond the input",
+            Refusal::Cut => "a count or a section of a listing is cut short",
+            Refusal::Limits => "a count of a listing is outside its limits",
+            Refusal::After => "bytes after a listing's patterns",
+        })
+    }
+}
+
+impl core::error::Error for Refusal {}
+
+// One line a function: its number, its case, its call, its entry, what it is, and a pattern with its answer.
+macro_rules! functions {
+    ($($number:literal $case:ident $name:ident $entry:ident $what:literal $p:literal $answer:literal;)*) => {
+        #[link(name = "balehasp", kind = "static")]
+        extern "C" {
+            $(fn $entry(p: u16) -> u16;)*
+        }
+
+        /// The functions, with their numbers.
+        ///
+        /// ```
+        /// use balehasp::{Function, Refusal};
+        /// assert_eq!(Function::try_from(3), Ok(Function::Ln));
+        /// assert_eq!(Function::try_from(11), Err(Refusal::Function));
+        /// ```
+        #[derive(Clone, Copy, Debug, PartialEq, Eq, Hash)]
+        #[repr(u16)]
+        pub enum Function {
+            $(
+                #[doc = $what]
+                $case = $number,
+            )*
+        }
+
+        impl Function {
+            /// All functions, in the order of their numbers.
+            ///
+            /// ```
+            /// assert_eq!(balehasp::Function::ALL.len(), 10);
+            /// ```
+            pub const ALL: [Function; 10] = [$(Function::$case,)*];
+
+            /// The function's number.
+            ///
+            /// ```
+            /// assert_eq!(balehasp::Function::AcosPi.number(), 10);
+            /// ```
+            #[must_use]
+            pub const fn number(self) -> u16 {
+                self as u16
+            }
+        }
+
+        impl TryFrom<u16> for Function {
+            type Error = Refusal;
+
+            fn try_from(number: u16) -> Result<Self, Refusal> {
+                match number {
+                    $($number => Ok(Function::$case),)*
+                    _ => Err(Refusal::Function),
+                }
+            }
+        }
+
+        $(
+            #[doc = $what]
+            ///
+            /// ```
+            #[doc = concat!("assert_eq!(balehasp::", stringify!($name), "(", stringify!($p), "), ", stringify!($answer), ");")]
+            /// ```
+            #[must_use]
+            pub fn $name(p: u16) -> u16 {
+                // SAFETY: the entry takes and gives a number, and takes every one.
+                unsafe { $entry(p) }
+            }
+        )*
+
+        /// The function of p. It is never refused.
+        ///
+        /// ```
+        /// use balehasp::{answer, Function};
+        /// assert_eq!(answer(Function::Exp2, 0x4000), 0x5000);
+        /// ```
+        #[must_use]
+        pub fn answer(function: Function, p: u16) -> u16 {
+            match function {
+                $(Function::$case => $name(p),)*
+            }
+        }
+    };
+}
+
+functions! {
+    1 Exp exp balehasp_exp "e to the power of p." 0x0000 0x4000;
+    2 Exp2 exp2 balehasp_exp2 "2 to the power of p." 0x4000 0x5000;
+    3 Ln ln balehasp_ln "The natural logarithm of p." 0x4000 0x0000;
+    4 Log2 log2 balehasp_log2 "The logarithm of p to the base 2." 0x5000 0x4000;
+    5 SinPi sin_pi balehasp_sin_pi "The sine of p half-turns." 0x3000 0x4000;
+    6 CosPi cos_pi balehasp_cos_pi "The cosine of p half-turns." 0x4000 0xC000;
+    7 TanPi tan_pi balehasp_tan_pi "The tangent of p half-turns." 0x2000 0x4000;
+    8 AtanPi atan_pi balehasp_atan_pi "The angle in half-turns whose tangent is p." 0x4000 0x2000;
+    9 AsinPi asin_pi balehasp_asin_pi "The angle in half-turns whose sine is p." 0x4000 0x3000;
+    10 AcosPi acos_pi balehasp_acos_pi "The angle in half-turns whose cosine is p." 0xC000 0x4000;
+}
+
+// The other entries. A slice goes over as a pointer and a length.
+extern "C" {
+    fn balehasp_answer(function: u16, p: u16, answer: *mut u16) -> u16;
+    fn balehasp_batch(
+        function: u16,
+        input: *const u16,
+        input_length: usize,
+        output: *mut u16,
+        output_length: usize,
+        start: usize,
+        limit: usize,
+        next: *mut usize,
+        nars: *mut usize,
+    ) -> u16;
+    fn balehasp_listing(
+        input: *const u8,
+        input_length: usize,
+        output: *mut u8,
+        output_length: usize,
+        written: *mut usize,
+    ) -> u16;
+    fn balehasp_to_f64(p: u16, real: *mut f64) -> bool;
+    fn balehasp_from_f64(x: f64) -> u16;
+    fn balehasp_span(p: u16, lower: *mut f64, upper: *mut f64) -> bool;
+}
+
+/// The function with that number, of p, for a number from outside. Refused: `Function`.
+///
+/// ```
+/// use balehasp::{answer_by_number, Refusal};
+/// assert_eq!(answer_by_number(2, 0x4000), Ok(0x5000));
+/// assert_eq!(answer_by_number(0, 0x4000), Err(Refusal::Function));
+/// ```
+#[must_use = "a refused call has no answer"]
+pub fn answer_by_number(function: u16, p: u16) -> Result<u16, Refusal> {
+    let mut answer = 0;
+    // SAFETY: the place lives through the call.
+    let refusal = unsafe { balehasp_answer(function, p, &mut answer) };
+    Refusal::unless(refusal, answer)
+}
+
 /// What a batch did.
+///
+/// ```
+/// let done = balehasp::batch(balehasp::Function::Ln, &[0x4000, 0xC000], &mut [0; 2], 0, 2);
+/// assert_eq!(done, Ok(balehasp::Batched { next: 2, nars: 1 }));
+/// ```
 #[derive(Clone, Copy, Debug, PartialEq, Eq)]
 pub struct Batched {
     /// The place after the last answered, where the next call starts.
@@ -53,7 +266,81 @@ pub struct Batched {
     pub nars: usize,
 }
 
+/// Answers the patterns of `input` from the place `start` on, at most `limit` of them, each at its own place of `output`, which
+/// is at least as long. Refused, in this order: `Output`, `Start`.
+///
+/// ```
+/// use balehasp::{batch, Function, Refusal};
+/// let mut output = [0; 2];
+/// assert_eq!(batch(Function::Exp2, &[0x4000, 0x0000], &mut output, 0, 2).map(|done| done.next), Ok(2));
+/// assert_eq!(output, [0x5000, 0x4000]);
+/// assert_eq!(batch(Function::Exp2, &[0x4000, 0x0000], &mut output[..1], 0, 2), Err(Refusal::Output));
+/// ```
+#[must_use = "a refused batch answers nothing, and the next call starts where this one ended"]
+pub fn batch(function: Function, input: &[u16], output: &mut [u16], start: usize, limit: usize) -> Result<Batched, Refusal> {
+    batch_by_number(function.number(), input, output, start, limit)
+}
+
+/// The batch of the function with that number, for a number from outside. Refused, in this order: `Function`, `Output`, `Start`.
+///
+/// ```
+/// use balehasp::{batch_by_number, Refusal};
+/// assert_eq!(batch_by_number(11, &[0x4000], &mut [0], 0, 1), Err(Refusal::Function));
+/// ```
+#[must_use = "a refused batch answers nothing, and the next call starts where this one ended"]
+pub fn batch_by_number(
+    function: u16,
+    input: &[u16],
+    output: &mut [u16],
+    start: usize,
+    limit: usize,
+) -> Result<Batched, Refusal> {
+    let mut done = Batched { next: 0, nars: 0 };
+    // SAFETY: each pointer goes with its slice's length, a slice's pointer is never null, and what is lent to be written
+    // overlaps nothing.
+    let refusal = unsafe {
+        balehasp_batch(
+            function,
+            input.as_ptr(),
+            input.len(),
+            output.as_mut_ptr(),
+            output.len(),
+            start,
+            limit,
+            &mut done.next,
+            &mut done.nars,
+        )
+    };
+    Refusal::unless(refusal, done)
+}
+
+/// Reads the listing in `input`, writes the answered one into the first bytes of `output`, and says how many they are. All
+/// numbers are 16 bits, low byte first. A listing is a count of functions (1 to 10) and their numbers, then a count of patterns
+/// (0 to 1,024) and the patterns; the answered one has after that the count of answers and the answers, all of the first
+/// function's, then the next's. [`LONGEST_ANSWERED`] bytes are room for every one.
+/// Refused: `Cut`, `Limits` and `Function` as the sections are read, then `After`, then `Output`.
+///
+/// ```
+/// let mut output = [0; balehasp::LONGEST_ANSWERED];
+/// let written = balehasp::listing(&[1, 0, 2, 0, 1, 0, 0x00, 0x40], &mut output)?;
+/// assert_eq!(output[..written], [1, 0, 2, 0, 1, 0, 0x00, 0x40, 1, 0, 0x00, 0x50]);
+/// assert_eq!(balehasp::listing(&[1, 0, 2], &mut output), Err(balehasp::Refusal::Cut));
+/// # Ok::<(), balehasp::Refusal>(())
+/// ```
+#[must_use = "a refused listing writes nothing"]
+pub fn listing(input: &[u8], output: &mut [u8]) -> Result<usize, Refusal> {
+    let mut written = 0;
+    // SAFETY: as in `batch_by_number`.
+    let refusal =
+        unsafe { balehasp_listing(input.as_ptr(), input.len(), output.as_mut_ptr(), output.len(), &mut written) };
+    Refusal::unless(refusal, written)
+}
+
 /// A pattern's number.
+///
+/// ```
+/// assert_eq!(balehasp::to_f64(0xC000), balehasp::Real::Real(-1.0));
+/// ```
 #[derive(Clone, Copy, Debug, PartialEq)]
 pub enum Real {
     /// A real number, exactly; `+0.0` for zero.
@@ -62,7 +349,43 @@ pub enum Real {
     NaR,
 }
 
+/// p's number.
+///
+/// ```
+/// use balehasp::{to_f64, Real, NAR};
+/// assert_eq!(to_f64(0x72C0), Real::Real(27.0));
+/// assert_eq!(to_f64(NAR), Real::NaR);
+/// ```
+#[must_use]
+pub fn to_f64(p: u16) -> Real {
+    let mut real = 0.0;
+    // SAFETY: the place lives through the call.
+    if unsafe { balehasp_to_f64(p, &mut real) } {
+        Real::Real(real)
+    } else {
+        Real::NaR
+    }
+}
+
+/// The posit that x rounds to: NaR for a NaN and both infinities, 0 for both zeros, and neither for any other number.
+///
+/// ```
+/// use balehasp::{from_f64, NAR};
+/// assert_eq!(from_f64(27.0), 0x72C0);
+/// assert_eq!(from_f64(1e-300), 0x0001);
+/// assert_eq!(from_f64(f64::INFINITY), NAR);
+/// ```
+#[must_use]
+pub fn from_f64(x: f64) -> u16 {
+    // SAFETY: the entry takes every number.
+    unsafe { balehasp_from_f64(x) }
+}
+
 /// A pattern's span.
+///
+/// ```
+/// assert_eq!(balehasp::span(balehasp::NAR), balehasp::Span::NaR);
+/// ```
 #[derive(Clone, Copy, Debug, PartialEq)]
 pub enum Span {
     /// The numbers of the posits of 17 bits next below and next above the pattern.
@@ -76,145 +399,22 @@ pub enum Span {
     NaR,
 }
 
-mod entries {
-    // What bindings/c/balehasp.h declares. A slice goes over as a pointer and a length.
-    #[link(name = "balehasp", kind = "static")]
-    extern "C" {
-        pub fn balehasp_exp(p: u16) -> u16;
-        pub fn balehasp_exp2(p: u16) -> u16;
-        pub fn balehasp_ln(p: u16) -> u16;
-        pub fn balehasp_log2(p: u16) -> u16;
-        pub fn balehasp_sin_pi(p: u16) -> u16;
-        pub fn balehasp_cos_pi(p: u16) -> u16;
-        pub fn balehasp_tan_pi(p: u16) -> u16;
-        pub fn balehasp_atan_pi(p: u16) -> u16;
-        pub fn balehasp_asin_pi(p: u16) -> u16;
-        pub fn balehasp_acos_pi(p: u16) -> u16;
-        pub fn balehasp_answer(function: u16, p: u16, answer: *mut u16) -> u16;
-        pub fn balehasp_batch(
-            function: u16,
-            input: *const u16,
-            input_length: usize,
-            output: *mut u16,
-            output_length: usize,
-            start: usize,
-            limit: usize,
-            next: *mut usize,
-            nars: *mut usize,
-        ) -> u16;
-        pub fn balehasp_listing(
-            input: *const u8,
-            input_length: usize,
-            output: *mut u8,
-            output_length: usize,
-            written: *mut usize,
-        ) -> u16;
-        pub fn balehasp_to_f64(p: u16, real: *mut f64) -> bool;
-        pub fn balehasp_from_f64(x: f64) -> u16;
-        pub fn balehasp_span(p: u16, lower: *mut f64, upper: *mut f64) -> bool;
-    }
-}
-
-macro_rules! functions {
-    ($($name:ident $entry:ident $what:literal;)*) => {
-        $(
-            #[doc = $what]
-            pub fn $name(p: u16) -> u16 {
-                // SAFETY: the entry takes and gives a number, and takes every one.
-                unsafe { entries::$entry(p) }
-            }
-        )*
-    };
-}
-
-functions! {
-    exp balehasp_exp "e to the power of p.";
-    exp2 balehasp_exp2 "2 to the power of p.";
-    ln balehasp_ln "The natural logarithm of p.";
-    log2 balehasp_log2 "The logarithm of p to the base 2.";
-    sin_pi balehasp_sin_pi "The sine of p half-turns.";
-    cos_pi balehasp_cos_pi "The cosine of p half-turns.";
-    tan_pi balehasp_tan_pi "The tangent of p half-turns.";
-    atan_pi balehasp_atan_pi "The angle in half-turns whose tangent is p.";
-    asin_pi balehasp_asin_pi "The angle in half-turns whose sine is p.";
-    acos_pi balehasp_acos_pi "The angle in half-turns whose cosine is p.";
-}
-
-fn unless_refused<T>(number: u16, done: T) -> Result<T, Refusal> {
-    match number {
-        0 => Ok(done),
-        1 => Err(Refusal::Function),
-        2 => Err(Refusal::Output),
-        3 => Err(Refusal::Start),
-        4 => Err(Refusal::Cut),
-        5 => Err(Refusal::Limits),
-        _ => Err(Refusal::After), // 6: there are no others
-    }
-}
-
-/// The function with that number, of p. Refused: `Function`.
-pub fn answer(function: u16, p: u16) -> Result<u16, Refusal> {
-    let mut answer = 0;
-    // SAFETY: the place lives through the call.
-    let refusal = unsafe { entries::balehasp_answer(function, p, &mut answer) };
-    unless_refused(refusal, answer)
-}
-
-/// Answers the patterns of `input` from the place `start` on, at most `limit` of them, each at its own place of `output`, which
-/// is at least as long. Refused, in this order: `Function`, `Output`, `Start`.
-pub fn batch(function: u16, input: &[u16], output: &mut [u16], start: usize, limit: usize) -> Result<Batched, Refusal> {
-    let mut batched = Batched { next: 0, nars: 0 };
-    // SAFETY: each pointer goes with its slice's length, a slice's pointer is never null, and what is lent to be written
-    // overlaps nothing.
-    let refusal = unsafe {
-        entries::balehasp_batch(
-            function,
-            input.as_ptr(),
-            input.len(),
-            output.as_mut_ptr(),
-            output.len(),
-            start,
-            limit,
-            &mut batched.next,
-            &mut batched.nars,
-        )
-    };
-    unless_refused(refusal, batched)
-}
-
-/// Reads the listing in `input`, writes the answered one into the first bytes of `output`, and says how many they are.
-/// Refused: `Cut`, `Limits` and `Function` as the sections are read, then `After`, then `Output`.
-pub fn listing(input: &[u8], output: &mut [u8]) -> Result<usize, Refusal> {
-    let mut written = 0;
-    // SAFETY: as in `batch`.
-    let refusal = unsafe {
-        entries::balehasp_listing(input.as_ptr(), input.len(), output.as_mut_ptr(), output.len(), &mut written)
-    };
-    unless_refused(refusal, written)
-}
-
-/// p's number.
-pub fn to_f64(p: u16) -> Real {
-    let mut real = 0.0;
-    // SAFETY: the place lives through the call.
-    if unsafe { entries::balehasp_to_f64(p, &mut real) } {
-        Real::Real(real)
-    } else {
-        Real::NaR
-    }
-}
-
-/// The posit that x rounds to: NaR for a NaN and both infinities, 0 for both zeros, and neither for any other number.
-pub fn from_f64(x: f64) -> u16 {
-    // SAFETY: the entry takes every number.
-    unsafe { entries::balehasp_from_f64(x) }
-}
-
-/// p's span.
+/// p's span. The numbers that round to p are those between its edges, and the edges where p is even; but not at five patterns.
+/// All numbers from the outer edge of `0x7FFF` or `0x8001` outward, and all between 0 and the inner edge of `0x0001` or
+/// `0xFFFF`, that edge too, round to that pattern as well. In the span of 0 only 0 itself rounds to 0.
+///
+/// ```
+/// use balehasp::{from_f64, span, Span};
+/// assert_eq!(span(0x4000), Span::Edges { lower: 1.0 - 1.0 / 16384.0, upper: 1.0 + 1.0 / 8192.0 });
+/// let tiny = 2f64.powi(-40);
+/// assert_eq!(from_f64(tiny), 0x0001);
+/// assert!(matches!(span(0x0001), Span::Edges { lower, .. } if tiny < lower));
+/// ```
+#[must_use]
 pub fn span(p: u16) -> Span {
     let (mut lower, mut upper) = (0.0, 0.0);
     // SAFETY: the places live through the call.
-    if unsafe { entries::balehasp_span(p, &mut lower, &mut upper) } {
+    if unsafe { balehasp_span(p, &mut lower, &mut upper) } {
         Span::Edges { lower, upper }
     } else {
         Span::NaR

@@ -1,0 +1,320 @@
+//! The crate against the recorded answers of the original Rust and an independent model of document 01.
+//!
+//! The answers are what oracle/record writes; BALEHASP_ANSWERS names the file where it is not in its place in the tree.
+use balehasp::{
+    acos_pi, answer, answer_by_number, asin_pi, atan_pi, batch, batch_by_number, cos_pi, exp, exp2, from_f64, listing, ln,
+    log2, sin_pi, span, tan_pi, to_f64, Batched, Function, Real, Refusal, Span, LONGEST_ANSWERED, LONGEST_LISTING, NAR,
+};
+
+const ROUNDS: usize = 100_000;
+
+type Call = fn(u16) -> u16;
+
+/// Every function: its number in document 01, its case and its call.
+const FUNCTIONS: [(u16, Function, Call); 10] = [
+    (1, Function::Exp, exp),
+    (2, Function::Exp2, exp2),
+    (3, Function::Ln, ln),
+    (4, Function::Log2, log2),
+    (5, Function::SinPi, sin_pi),
+    (6, Function::CosPi, cos_pi),
+    (7, Function::TanPi, tan_pi),
+    (8, Function::AtanPi, atan_pi),
+    (9, Function::AsinPi, asin_pi),
+    (10, Function::AcosPi, acos_pi),
+];
+
+struct Answers(Vec<u8>);
+
+impl Answers {
+    fn read() -> Self {
+        let file = std::env::var("BALEHASP_ANSWERS")
+            .unwrap_or_else(|_| concat!(env!("CARGO_MANIFEST_DIR"), "/../../crates/whole_run/stdin").to_string());
+        let bytes = std::fs::read(&file).unwrap_or_else(|e| panic!("{file}: {e}"));
+        assert!(bytes.len() >= 10 * 65536 * 2, "{file} does not hold the answers of ten functions");
+        Answers(bytes)
+    }
+
+    fn of(&self, function: u16, p: u16) -> u16 {
+        number_at(&self.0, (usize::from(function) - 1) * 131_072 + 2 * usize::from(p))
+    }
+}
+
+fn number_at(bytes: &[u8], at: usize) -> u16 {
+    u16::from_le_bytes([bytes[at], bytes[at + 1]])
+}
+
+struct Noise(u64);
+
+impl Noise {
+    fn next(&mut self) -> u64 {
+        self.0 = self.0.wrapping_add(0x9E37_79B9_7F4A_7C15);
+        let z = (self.0 ^ (self.0 >> 30)).wrapping_mul(0xBF58_476D_1CE4_E5B9);
+        let z = (z ^ (z >> 27)).wrapping_mul(0x94D0_49BB_1331_11EB);
+        z ^ (z >> 31)
+    }
+
+    fn below(&mut self, n: usize) -> usize {
+        usize::try_from(self.next() % n as u64).unwrap()
+    }
+
+    fn pattern(&mut self) -> u16 {
+        self.next() as u16
+    }
+
+    fn patterns(&mut self, n: usize) -> Vec<u16> {
+        (0..n).map(|_| self.pattern()).collect()
+    }
+
+    /// A function's number, unknown now and then.
+    fn function(&mut self) -> u16 {
+        match self.below(12) {
+            0 => self.pattern(),
+            1 => 11 * (self.pattern() % 2),
+            _ => 1 + self.pattern() % 10,
+        }
+    }
+}
+
+#[test]
+fn all_655360_answers() {
+    let answers = Answers::read();
+    let mut count = 0;
+    for (place, (number, function, call)) in FUNCTIONS.into_iter().enumerate() {
+        assert_eq!(function.number(), number);
+        assert_eq!(Function::try_from(number), Ok(function));
+        assert_eq!(Function::ALL[place], function);
+        for p in 0..=u16::MAX {
+            let right = answers.of(number, p);
+            assert_eq!(call(p), right, "{function:?} of {p:#06x}");
+            assert_eq!(answer(function, p), right, "answer({function:?}, {p:#06x})");
+            assert_eq!(answer_by_number(number, p), Ok(right), "answer_by_number({number}, {p:#06x})");
+            count += 1;
+        }
+    }
+    assert_eq!(count, 655_360);
+    println!("{count} answers by ten calls, by case and by number: all as the Rust's");
+}
+
+#[test]
+fn unknown_function_numbers() {
+    for number in (0..=u16::MAX).filter(|number| !(1..=10).contains(number)) {
+        assert_eq!(Function::try_from(number), Err(Refusal::Function));
+        assert_eq!(answer_by_number(number, 0x4000), Err(Refusal::Function));
+    }
+}
+
+#[test]
+fn refusals_have_their_numbers_and_words() {
+    let all = [Refusal::Function, Refusal::Output, Refusal::Start, Refusal::Cut, Refusal::Limits, Refusal::After];
+    for (number, refusal) in (1..).zip(all) {
+        assert_eq!(refusal.number(), number);
+        let error: Box<dyn std::error::Error> = Box::new(refusal);
+        assert!(error.to_string().len() > 10);
+        assert_eq!(all.iter().filter(|other| other.to_string() == error.to_string()).count(), 1);
+    }
+}
+
+/// What a batch does to the output, and its outcome.
+fn model_batch(
+    answers: &Answers,
+    function: u16,
+    input: &[u16],
+    output: &mut [u16],
+    start: usize,
+    limit: usize,
+) -> Result<Batched, Refusal> {
+    if !(1..=10).contains(&function) {
+        return Err(Refusal::Function);
+    }
+    if output.len() < input.len() {
+        return Err(Refusal::Output);
+    }
+    if start > input.len() {
+        return Err(Refusal::Start);
+    }
+    let next = input.len().min(start.saturating_add(limit));
+    for place in start..next {
+        output[place] = answers.of(function, input[place]);
+    }
+    Ok(Batched { next, nars: output[start..next].iter().filter(|&&answer| answer == NAR).count() })
+}
+
+#[test]
+fn batches() {
+    let answers = Answers::read();
+    let mut noise = Noise(1);
+    let mut given = [0; 4];
+    for _ in 0..ROUNDS {
+        let (function, inputs) = (noise.function(), noise.below(40));
+        let outputs = if noise.below(8) == 0 { noise.below(inputs + 2) } else { inputs + noise.below(4) };
+        let start = noise.below(inputs + 2);
+        let limit = if noise.below(4) == 0 { usize::MAX - noise.below(3) } else { noise.below(50) };
+        let input = noise.patterns(inputs);
+        let mut output = noise.patterns(outputs);
+        let mut right = output.clone();
+        let outcome = model_batch(&answers, function, &input, &mut right, start, limit);
+        assert_eq!(batch_by_number(function, &input, &mut output, start, limit), outcome);
+        assert_eq!(output, right);
+        if let Ok(function) = Function::try_from(function) {
+            assert_eq!(batch(function, &input, &mut output, start, limit), outcome);
+            assert_eq!(output, right);
+        }
+        given[outcome.map_or_else(|refusal| usize::from(refusal.number()), |_| 0)] += 1;
+    }
+    assert!(given.iter().all(|&count| count > ROUNDS / 100), "{given:?}");
+    println!("{ROUNDS} random batches as the model's; answered, refused by 1, 2, 3: {given:?}");
+}
+
+/// A section's numbers and the bytes after it, by document 01's order of refusals.
+fn model_section(bytes: &[u8], least: usize, most: usize) -> Result<(Vec<u16>, &[u8]), Refusal> {
+    let (count, rest) = bytes.split_at_checked(2).ok_or(Refusal::Cut)?;
+    let count = usize::from(number_at(count, 0));
+    if !(least..=most).contains(&count) {
+        return Err(Refusal::Limits);
+    }
+    let (numbers, rest) = rest.split_at_checked(2 * count).ok_or(Refusal::Cut)?;
+    Ok(((0..count).map(|place| number_at(numbers, 2 * place)).collect(), rest))
+}
+
+fn model_listing(answers: &Answers, input: &[u8], room: usize) -> Result<Vec<u8>, Refusal> {
+    let (functions, rest) = model_section(input, 1, 10)?;
+    if functions.iter().any(|function| !(1..=10).contains(function)) {
+        return Err(Refusal::Function);
+    }
+    let (patterns, rest) = model_section(rest, 0, 1024)?;
+    if !rest.is_empty() {
+        return Err(Refusal::After);
+    }
+    let mut answered = input.to_vec();
+    answered.extend(u16::try_from(functions.len() * patterns.len()).unwrap().to_le_bytes());
+    for &function in &functions {
+        answered.extend(patterns.iter().flat_map(|&p| answers.of(function, p).to_le_bytes()));
+    }
+    if answered.len() > room {
+        return Err(Refusal::Output);
+    }
+    Ok(answered)
+}
+
+/// One listing, with its outcome held to the model's and every byte of the output to what it must be.
+fn one_listing(answers: &Answers, noise: &mut Noise, input: &[u8], room: usize) -> Result<usize, Refusal> {
+    let mut output: Vec<u8> = (0..room).map(|_| noise.next() as u8).collect();
+    let mut right = output.clone();
+    let outcome = model_listing(answers, input, room).map(|answered| {
+        right[..answered.len()].copy_from_slice(&answered);
+        answered.len()
+    });
+    assert_eq!(listing(input, &mut output), outcome, "{input:x?} in {room} bytes");
+    assert_eq!(output, right, "{input:x?} in {room} bytes");
+    outcome
+}
+
+fn some_listing(noise: &mut Noise, functions: usize, patterns: usize) -> Vec<u8> {
+    let mut numbers = vec![functions as u16];
+    numbers.extend((0..functions).map(|_| 1 + noise.pattern() % 10));
+    numbers.push(patterns as u16);
+    numbers.extend(noise.patterns(patterns));
+    numbers.into_iter().flat_map(u16::to_le_bytes).collect()
+}
+
+#[test]
+fn listings() {
+    let answers = Answers::read();
+    let mut noise = Noise(2);
+    let mut given = [0; 7];
+    for _ in 0..ROUNDS {
+        let (functions, patterns) = (1 + noise.below(10), noise.below(12));
+        let mut bytes = some_listing(&mut noise, functions, patterns);
+        match noise.below(10) {
+            0 => bytes.truncate(noise.below(bytes.len())),
+            1 => bytes.extend([7; 3].iter().take(1 + noise.below(3))),
+            2 => bytes[noise.below(2)] = noise.next() as u8,
+            3 => bytes[2 + noise.below(2)] = noise.next() as u8,
+            4 => bytes[2 + 2 * functions + noise.below(2)] ^= 1 << noise.below(8),
+            _ => {}
+        }
+        let long = bytes.len() + 2 + 2 * functions * patterns;
+        let room = if noise.below(4) == 0 { noise.below(long) } else { long + noise.below(9) };
+        given[one_listing(&answers, &mut noise, &bytes, room).map_or_else(|refusal| usize::from(refusal.number()), |_| 0)] += 1;
+    }
+    assert!((0..7).all(|number| (number == 3) == (given[number] <= ROUNDS / 100)), "{given:?}");
+    println!("{ROUNDS} random and damaged listings as the model's; answered, refused by 1 to 6: {given:?}");
+}
+
+#[test]
+fn the_longest_listing() {
+    let answers = Answers::read();
+    let mut noise = Noise(3);
+    let mut bytes = some_listing(&mut noise, 10, 1024);
+    assert_eq!(bytes.len(), LONGEST_LISTING);
+    assert_eq!(one_listing(&answers, &mut noise, &bytes, LONGEST_ANSWERED), Ok(LONGEST_ANSWERED));
+    assert_eq!(one_listing(&answers, &mut noise, &bytes, LONGEST_ANSWERED - 1), Err(Refusal::Output));
+    bytes.push(0);
+    assert_eq!(one_listing(&answers, &mut noise, &bytes, LONGEST_ANSWERED), Err(Refusal::After));
+}
+
+/// The number of the posit p of n bits with one exponent bit, neither zero nor NaR, read off its bits.
+fn number_of(p: u32, n: u32) -> f64 {
+    if p >> (n - 1) == 1 {
+        return -number_of((1 << n) - p, n);
+    }
+    let bits: Vec<u32> = (0..n - 1).rev().map(|at| p >> at & 1).collect();
+    let run = bits.iter().take_while(|&&bit| bit == bits[0]).count();
+    let regime = if bits[0] == 1 { run as i32 - 1 } else { -(run as i32) };
+    let mut after = bits.iter().skip(run + 1).map(|&bit| f64::from(bit));
+    let power = 2 * regime + after.next().unwrap_or(0.0) as i32;
+    let fraction: f64 = after.zip(1..).map(|(bit, place)| bit * 2f64.powi(-place)).sum();
+    (1.0 + fraction) * 2f64.powi(power)
+}
+
+/// The pattern that x rounds to: the largest magnitude whose dividing number from the one below x reaches, even on a tie.
+fn rounded(dividing: &[f64], x: f64) -> u16 {
+    if !x.is_finite() {
+        return NAR;
+    }
+    if x == 0.0 {
+        return 0;
+    }
+    let size = x.abs();
+    // dividing[u - 1] lies between the magnitudes u and u + 1
+    let below = dividing.partition_point(|&d| d < size);
+    let magnitude = 1 + below as u16;
+    let magnitude = if dividing.get(below) == Some(&size) && magnitude % 2 == 1 { magnitude + 1 } else { magnitude };
+    if x < 0.0 {
+        magnitude.wrapping_neg()
+    } else {
+        magnitude
+    }
+}
+
+#[test]
+fn conversions_and_spans() {
+    let dividing: Vec<f64> = (1..0x7FFF).map(|u| number_of(2 * u + 1, 17)).collect();
+    let check = |x: f64| assert_eq!(from_f64(x), rounded(&dividing, x), "{x:e}");
+    for p in (0..=u16::MAX).filter(|&p| p != NAR) {
+        let wide = u32::from(p);
+        let real = if p == 0 { 0.0 } else { number_of(wide, 16) };
+        let Real::Real(found) = to_f64(p) else { panic!("{p:#06x} is a real number") };
+        assert_eq!(found.to_bits(), real.to_bits(), "{p:#06x}");
+        let (lower, upper) = (number_of((2 * wide).wrapping_sub(1) & 0x1FFFF, 17), number_of(2 * wide + 1, 17));
+        assert_eq!(span(p), Span::Edges { lower, upper }, "{p:#06x}");
+        assert!(lower < real && real < upper);
+        for bits in [real, lower, upper].map(f64::to_bits) {
+            for near in [bits.wrapping_sub(1), bits, bits.wrapping_add(1)] {
+                check(f64::from_bits(near));
+            }
+        }
+    }
+    assert_eq!(to_f64(NAR), Real::NaR);
+    assert_eq!(span(NAR), Span::NaR);
+    for x in [0.0, -0.0, f64::NAN, f64::INFINITY, f64::NEG_INFINITY, f64::MAX, f64::MIN, 5e-324, -5e-324] {
+        check(x);
+    }
+    let mut noise = Noise(4);
+    for _ in 0..ROUNDS {
+        check(f64::from_bits(noise.next()));
+        check((noise.next() as f64 - 2f64.powi(63)) * 2f64.powi(noise.below(60) as i32 - 90));
+    }
+    println!("65536 patterns to f64 and their spans, and {} numbers from f64: as the rule's", 65535 * 9 + 9 + 2 * ROUNDS);
+}
