@@ -1,5 +1,6 @@
-# Sourced by the scripts that run others. check runs a command of the project and prints a line: whether it passed, how long it
-# took and the last line that it said; all that it said where it failed, or where `show` is all. tally prints the count and ends.
+# Sourced by tools/check-all and tools/bindings. check runs a command of the project and prints a line: whether it passed, how long it
+# took and the last line that it said; all that it said where it failed, or where `show` is all. tally prints the count and
+# ends.
 passed=0 failed=0
 check() { # COMMAND WORDS
     local said began=$SECONDS
@@ -12,6 +13,14 @@ check() { # COMMAND WORDS
         failed=$((failed + 1))
         sed 's/^/    /' <<< "$said"
     fi
+}
+check_bindings() { # RUST
+    for machine in x86_64 aarch64; do
+        check tools/outside-tests "$1" --for $machine
+        check tools/examples --for $machine
+    done
+    check tools/header-tests
+    check tools/cargo-test
 }
 tally() { # NAME
     echo "$1: $passed passed, $failed failed"
