@@ -67,7 +67,14 @@ module _ {a b c d : ℕ} (o : Ordered a b c d) (kernel : ℤ → Known) where
   smallest-to : (p : ℕ) → 0x8000 < p → p ≤ d → ends a b c d kernel p ≡ names 0x0001
   unfolding ends
   smallest-to p l h =
-      rw (le-ltb p a (omega arith), le-ltb b p (omega arith), le-leb c p (omega arith), lt-leb p 0x7fff (omega arith), le-leb 0x8001 p (omega arith), le-leb p d h)
+      rw (
+        le-ltb p a (omega arith),
+        le-ltb b p (omega arith),
+        le-leb c p (omega arith),
+        lt-leb p 0x7fff (omega arith),
+        le-leb 0x8001 p (omega arith),
+        le-leb p d h,
+      )
 
   inside : (p : ℕ) → a ≤ p → p ≤ b → (c ≤ p → p < 0x8000 → ⊥) → (0x8000 < p → p ≤ d → ⊥) → ends a b c d kernel p ≡ otherwise kernel (number 1 16 p)
   unfolding ends
@@ -75,14 +82,23 @@ module _ {a b c d : ℕ} (o : Ordered a b c d) (kernel : ℤ → Known) where
     where
       go : Dec (p < c) → Dec (0x8000 < p) → ends a b c d kernel p ≡ otherwise kernel (number 1 16 p)
       go (yes q) k = rw (le-ltb p a l, le-ltb b p h, lt-leb c p q, lt-leb 0x8001 p (omega arith))
-      go (no q) (yes k) = rw (le-ltb p a l, le-ltb b p h, le-leb c p (omega arith), lt-leb p 0x7fff (omega arith), le-leb 0x8001 p (omega arith), lt-leb p d (omega (arith, v k)))
-      go (no q) (no k) = rw (le-ltb p a l, le-ltb b p h, le-leb c p (omega arith), lt-leb p 0x7fff (omega (arith, u (omega arith))), lt-leb 0x8001 p (omega arith))
+      go (no q) (yes k) =
+          rw (
+            le-ltb p a l,
+            le-ltb b p h,
+            le-leb c p (omega arith),
+            lt-leb p 0x7fff (omega arith),
+            le-leb 0x8001 p (omega arith),
+            lt-leb p d (omega (arith, v k)),
+          )
+      go (no q) (no k) =
+          rw (le-ltb p a l, le-ltb b p h, le-leb c p (omega arith), lt-leb p 0x7fff (omega (arith, u (omega arith))), lt-leb 0x8001 p (omega arith))
 
   nar-itself : ends a b c d kernel 0x8000 ≡ names 0x8000
   nar-itself = inside 0x8000 (omega arith) (omega arith) (λ q r. omega arith) (λ q r. omega arith) ∙ ap (otherwise kernel) (number-nar 1 16)
 
   -- the largest and the smallest posit, and NaR between them
-  pub past-ends : (p : ℕ) → c ≤ p → p ≤ d → ends a b c d kernel p ≡ names (beyond p)
+  past-ends : (p : ℕ) → c ≤ p → p ≤ d → ends a b c d kernel p ≡ names (beyond p)
   past-ends p l h = go (decLt p 0x8000) (decLt 0x8000 p)
     where
       go : Dec (p < 0x8000) → Dec (0x8000 < p) → ends a b c d kernel p ≡ names (beyond p)
@@ -99,7 +115,8 @@ module _ {a b c d : ℕ} (o : Ordered a b c d) (kernel : ℤ → Known) where
 
   -- the answer is what posit::round gives for the kernel's number, the parts of which were computed as f and n
   pub kernel-meets : {p s x f g n : ℕ} {e : ℤ} (K k r : ℕ) → Between a b c d p s x → kernel (withSign (ltb 0x7fff p) x) ≡ dyadic (pos (K + g)) (pos n -ℤ pos k)
-      → f ≡ g → n < 64 → e ≡ pos (n % 64) -ℤ pos k → mag e < 2 ^ 31 → Rounds 1 16 (dyadic (pos (K + f)) (toZ w32 (ofZ w32 e))) r → Meets (ends a b c d kernel p) r
+      → f ≡ g → n < 64 → e ≡ pos (n % 64) -ℤ pos k → mag e < 2 ^ 31
+      → Rounds 1 16 (dyadic (pos (K + f)) (toZ w32 (ofZ w32 e))) r → Meets (ends a b c d kernel p) r
   kernel-meets {p = p} K k r w is u few v fits m =
       let power = toZ-ofZ {w = w32} (record { sfits = fits }) ∙ v ∙ ap (λ (y : ℕ). pos y -ℤ pos k) (mod-eq-of-lt few) in
       rw (by-kernel p (w .least) (w .most) (w .out), sym (λ i. kernel (withSign (sign-bit o w i) (size-is o w i))) ∙ is)
@@ -113,12 +130,12 @@ module _ {a b c d : ℕ} (o : Ordered a b c d) (p s : ℕ) (some : 0 < p) (small
   minus : 0x7fff < p → s ≡ 0x10000 - p
   minus h = (rw (lt-ltb 0x7fff p h) at is) ∙ opposite-is 16 p some
 
-  pub past-both : c ≤ s → (c ≤ p) × (p ≤ d)
-  past-both h = go (decLt 0x7fff p)
+  pub past-both : (kernel : ℤ → Known) → c ≤ s → ends a b c d kernel p ≡ names (beyond p)
+  past-both kernel h = go (decLt 0x7fff p)
     where
-      go : Dec (0x7fff < p) → (c ≤ p) × (p ≤ d)
-      go (yes k) = let e = minus k in (omega arith, omega arith)
-      go (no k) = let e = plus (omega arith) in (omega arith, omega arith)
+      go : Dec (0x7fff < p) → ends a b c d kernel p ≡ names (beyond p)
+      go (yes k) = let e = minus k in past-ends o kernel p (omega arith) (omega arith)
+      go (no k) = let e = plus (omega arith) in past-ends o kernel p (omega arith) (omega arith)
 
   pub past-neither : s < c → c ≤ p → d < p
   past-neither h l = go (decLt 0x7fff p)
@@ -140,5 +157,6 @@ module _ (z : ℤ) (m M t : ℕ) (some : 0 < m) (more : 0 < M) (moved : z +ℤ p
       ap (λ (x : ℤ). x -ℤ pos (suc e)) (moved-back (floor (floor z m) M) 32 (t / m / M) (twice .whole))
       ∙ +ℤ-assoc (pos (t / m / M)) (negsuc 31) (negsuc e)
 
-  pub parts-moved : (K e : ℕ) (poly : ℕ → ℕ) → dyadic (pos (K + poly (modulo (floor z m) M))) (floor (floor z m) M -ℤ pos (suc e)) ≡ dyadic (pos (K + poly (t / m % M))) (pos (t / m / M) +ℤ negsuc (suc (31 + e)))
+  pub parts-moved : (K e : ℕ) (poly : ℕ → ℕ) → dyadic (pos (K + poly (modulo (floor z m) M))) (floor (floor z m) M -ℤ pos (suc e))
+      ≡ dyadic (pos (K + poly (t / m % M))) (pos (t / m / M) +ℤ negsuc (suc (31 + e)))
   parts-moved K e poly = λ i. dyadic (pos (K + poly (twice .rest i))) (power-moved e i)

@@ -4,7 +4,7 @@ use borrow.Author.Needs.{needs}
 use mathlib.Core.Logic.{inl, inr}
 use native.Mathlib.Omega.{arith}
 use Rattle.exponential.specs.Exp2.{kernel}
-use Rattle.exponential.proofs.Rows.Ends.{near-one, past-ends, past-both, past-neither}
+use Rattle.exponential.proofs.Rows.Ends.{near-one, past-both, past-neither}
 use Rattle.exponential.proofs.Rows.Exp2.{ordered}
 use Rattle.exponential.proofs.math.exp2.exp2.Statement.{statement}
 use Rattle.exponential.proofs.math.exp2.exp2.Tie as tie
@@ -23,14 +23,15 @@ saturated-requires c κs = search needs
 
 returns-3 : tie.Need-returns-3
 returns-3 c =
-    let p = c .before .before .before .before .before .args .p in
-    let h = past-both ordered p (c .before .before .signed .result) (omega arith) (omega arith) (c .before .before .signed .ensures) (omega arith) in
-    rw (past-ends ordered kernel p (h .0) (h .1)) (c .saturated .ensures)
+    let s = c .before .before in
+    let p = s .before .before .before .args .p in
+    rw (past-both ordered p (s .signed .result) (omega arith) (omega arith) (s .signed .ensures) kernel (omega arith)) (c .saturated .ensures)
 
 kernel-requires : tie.Need-kernel-requires
 kernel-requires c κs =
-    let p = c .before .before .before .before .args .p in
-    (search needs, search needs, past-neither ordered p (c .before .signed .result) (omega arith) (omega arith) (c .before .signed .ensures) (omega arith))
+    let s = c .before in
+    let p = s .before .before .before .args .p in
+    (search needs, search needs, past-neither ordered p (s .signed .result) (omega arith) (omega arith) (s .signed .ensures) (omega arith))
 
 returns-4 : tie.Need-returns-4
 returns-4 c = search needs
