@@ -1,4 +1,3 @@
-pub mod Arcs
 pub mod Roots
 pub mod Rows
 pub mod OneAnswer

@@ -47,7 +47,8 @@ one-root n r s a b = let x = no-more n r s a b in let y = no-more n s r b a in o
 pub the-root : (n r : ℕ) → n < 2 ^ 56 → Root n r → r ≡ root n
 unfolding root
 the-root n r h a =
-    let e : Edge (λ r. leb (r * r) n) (descend (λ r. leb (r * r) n) 28 0) = descends (λ r. leb (r * r) n) 28 0 (le-leb 0 n (omega arith)) (lt-leb (2 ^ 56) n h) in
+    let e : Edge (λ r. leb (r * r) n) (descend (λ r. leb (r * r) n) 28 0) =
+    descends (λ r. leb (r * r) n) 28 0 (le-leb 0 n (omega arith)) (lt-leb (2 ^ 56) n h) in
     let s : Root n (root n) = record { least = leb-true (root n * root n) n (e .inside); most = leb-false ((root n + 1) * (root n + 1)) n (e .outside) } in
     one-root n r (root n) a s
 

@@ -45,5 +45,6 @@ one-span-out p was up true true x x' y y' v w =
     let e = one-span p (Edges (record { lower = x; upper = x' })) (Edges (record { lower = y; upper = y' })) v w in
     (refl, ap (low was) e, ap (high up) e)
 one-span-out p was up true false x x' y y' v w = absurd (subst T (ap has-span (one-span p (Edges (record { lower = x; upper = x' })) Spans.NaR v (w .0))) tt)
-one-span-out p was up false true x x' y y' v w = absurd (subst T (sym (ap has-span (one-span p Spans.NaR (Edges (record { lower = y; upper = y' })) (v .0) w))) tt)
+one-span-out p was up false true x x' y y' v w =
+    absurd (subst T (sym (ap has-span (one-span p Spans.NaR (Edges (record { lower = y; upper = y' })) (v .0) w))) tt)
 one-span-out p was up false false x x' y y' v w = (refl, v .1 ∙ sym (w .1), v .2 ∙ sym (w .2))

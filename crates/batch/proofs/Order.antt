@@ -32,13 +32,16 @@ module _ (f inputs outputs start : ℕ) where
   not-refused k o s = simp (k, le-ltb outputs inputs o, le-ltb inputs start s)
 
 module _ (f : ℕ) (input output : List ℕ) (start limit : ℕ) where
-  pub refused-does-nothing : (why : Refusal) (r : Batched) → refusalOf f (length input) (length output) start ≡ why → placesAt why (length input) start limit ≡ 0
-      → r ≡ record { next = start; nars = 0; refusal = why } → (r ≡ batchedOf f input (length output) start limit) × (output ≡ outputOf f input output start limit)
+  pub refused-does-nothing : (why : Refusal) (r : Batched)
+      → refusalOf f (length input) (length output) start ≡ why → placesAt why (length input) start limit ≡ 0
+      → r ≡ record { next = start; nars = 0; refusal = why }
+      → (r ≡ batchedOf f input (length output) start limit) × (output ≡ outputOf f input output start limit)
   refused-does-nothing why r e none h = (h ∙ simp (e, none, add-zero), simp (e, none) (paste-zero output start (answers f input start)))
 
   pub accepted-does : (n nars : ℕ) (left : List ℕ) → refusalOf f (length input) (length output) start ≡ None
       → n ≡ min limit (length input - start) → nars ≡ narsIn (take n (answers f input start)) → left ≡ paste output start (answers f input start) n
-      → (record { next = start + n; nars = nars; refusal = None } ≡ batchedOf f input (length output) start limit) × (left ≡ outputOf f input output start limit)
+      → (record { next = start + n; nars = nars; refusal = None } ≡ batchedOf f input (length output) start limit)
+      × (left ≡ outputOf f input output start limit)
   accepted-does n nars left e h k l =
       let m : min (start + limit) (length input) - start ≡ n = omega arith in
       (simp (e, m, k), simp (e, m, l))

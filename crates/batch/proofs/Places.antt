@@ -21,7 +21,8 @@ module _ (f : ℕ) (input : List ℕ) (start j : ℕ) (inside : start + j < leng
   answer-there = List·getD-map (answerOf f) (drop start input) j 0 ∙ ap (answerOf f) (getD-drop start input j 0)
 
   pub one-more-written : (output : List ℕ) → length input ≤ length output
-      → set (paste output start (answers f input start) j) (start + j) (answerOf f (getD input (start + j) 0)) ≡ paste output start (answers f input start) (j + 1)
+      → set (paste output start (answers f input start) j) (start + j) (answerOf f (getD input (start + j) 0))
+      ≡ paste output start (answers f input start) (j + 1)
   one-more-written output h = rw (← answer-there, add-one) (paste-suc output start (answers f input start) j (answerOf f 0) (omega arith) short)
 
   pub one-more-counted : narsIn (take (j + 1) (answers f input start)) ≡ narsIn (take j (answers f input start)) + isNar (answerOf f (getD input (start + j) 0))

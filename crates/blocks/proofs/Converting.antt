@@ -43,5 +43,6 @@ module _ (k m : ℕ) (g : ℕ → List ℕ) (widths : (w : ℕ) → length (g w)
       let e : m * (n + 1) ≡ m * n + length (g w) = omega (arith, mul-suc m n, add-one n, widths w) in
       let f : wordAt k b (0 + k * n) ≡ w = ap (wordAt k b) (zero-add (k * n)) in
       let after : first (n + 1) ≡ first n ++ g w =
-      ap first (add-one n) ∙ ap (forEach g) (wordsAt-suc k b 0 n) ∙ forEach-snoc g (wordsAt k b 0 n) (wordAt k b (0 + k * n)) ∙ ap (λ (v : ℕ). first n ++ g v) f in
+      ap first (add-one n) ∙ ap (forEach g) (wordsAt-suc k b 0 n)
+      ∙ forEach-snoc g (wordsAt k b 0 n) (wordAt k b (0 + k * n)) ∙ ap (λ (v : ℕ). first n ++ g v) f in
       rw (now, e, written-next l (g w) (m * n) (omega (arith, widths w)), before) (sym after)

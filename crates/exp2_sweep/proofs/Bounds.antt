@@ -1,7 +1,9 @@
 -- Bounds on a power d ^ (suc r ^ n), found by raising to the power suc r, n times, each time cut back to the unit 2 ^ -B:
 -- the lower one is rounded down, the upper one up. That they hold is proved over variables, and no power of d is ever formed.
 use Prim.Native.Nat.{ℕ, zero, suc, min, _+_, _-_, _*_, _/_, _%_, _^_, _≤_, _<_}
-use native.Mathlib.Nat.{le-trans, le-of-eq, lt-of-le-of-lt, lt-of-lt-of-le, mul-assoc, mul-comm, mul-left-comm, mul-mul-mul-comm, mul-le-mul-left, mul-le-mul-right, mul-lt-mul-of-pos-right, le-of-mul-le-mul-right, lt-of-mul-lt-mul-right, mul-zero, one-mul, mul-suc, pow-zero, pow-suc, pow-le-pow-left, div-mul-le-self, div-add-mod', mod-lt, min-le-left, min-le-right}
+use native.Mathlib.Nat.{le-trans, le-of-eq, lt-of-le-of-lt, lt-of-lt-of-le, mul-assoc, mul-comm, mul-left-comm, mul-mul-mul-comm, mul-le-mul-left}
+use native.Mathlib.Nat.{mul-le-mul-right, mul-lt-mul-of-pos-right, le-of-mul-le-mul-right, lt-of-mul-lt-mul-right, mul-zero, one-mul, mul-suc}
+use native.Mathlib.Nat.{pow-zero, pow-suc, pow-le-pow-left, div-mul-le-self, div-add-mod', mod-lt, min-le-left, min-le-right}
 use native.Mathlib.Omega.{arith}
 use mathlib.Core.Path.{_≡_, sym, ap, ap₂, _∙_, subst}
 use lib.Pow.{pow-pos, pow-mono, pow-add}
@@ -86,7 +88,8 @@ lower-holds r B (suc n) E d =
 pub upper-holds : (r B n E d : ℕ) → d ^ (suc r ^ n) * 2 ^ B ≤ upper r B n E d * 2 ^ E
 upper-holds r B zero E d =
     rw (pow-one d r)
-    (le-trans (at-most-ceiling (d * 2 ^ B) (2 ^ min E 64) (pow-pos (min E 64))) (mul-le-mul-left (ceiling (d * 2 ^ B) (min E 64)) (pow-mono (min-le-left E 64))))
+    (le-trans (at-most-ceiling (d * 2 ^ B) (2 ^ min E 64) (pow-pos (min E 64)))
+    (mul-le-mul-left (ceiling (d * 2 ^ B) (min E 64)) (pow-mono (min-le-left E 64))))
 upper-holds r B (suc n) E d =
     let s = B * r + E % suc r in
     let m = upper r B n (E / suc r) d in

@@ -2,6 +2,7 @@
 use Prim.Native.Nat.{ℕ, zero, suc, _+_, _*_, _≤_, _<_}
 use native.Mathlib.Nat.{eq-or-lt-of-le}
 use native.Mathlib.Omega.{arith}
+use native.Mathlib.Decide.{decLt}
 use mathlib.Core.Path.{_≡_, subst}
 use mathlib.Core.Logic.{⊎-elim}
 use mathlib.Core.Bool.{Bool, true, false}
@@ -37,9 +38,16 @@ tested p h t = go (eqb p 0x8000) (eqb→eq p 0x8000) t
     go true e t = absurd (h (e tt))
     go false e t = agrees-agreed (number 1 16 p) (row p) t
 
--- the patterns are swept in sixteen parts
-abbrev pub Part : ℕ → Type 0
-Part k = (p : ℕ) → 4096 * k ≤ p → p < 4096 * k + 4096 → (p ≡ 0x8000 → ⊥) → Agreed (number 1 16 p) (row p)
+-- the patterns are swept in parts of 4096: those before part k agree
+abbrev pub Before : ℕ → Type 0
+Before k = (p : ℕ) → p < 4096 * k → (p ≡ 0x8000 → ⊥) → Agreed (number 1 16 p) (row p)
 
-pub part : (k : ℕ) → T (sweep test 4096 (4096 * k)) → Part k
-part k t p l h finite = tested p finite (sweep-at test 4096 (4096 * k) p l h t)
+pub none : Before 0
+none p h finite = absurd (omega arith)
+
+pub part : (k : ℕ) → Before k → T (sweep test 4096 (4096 * k)) → Before (suc k)
+part k before t p h finite = go (decLt p (4096 * k))
+  where
+    go : Dec (p < 4096 * k) → Agreed (number 1 16 p) (row p)
+    go (yes l) = before p l finite
+    go (no l) = tested p finite (sweep-at test 4096 (4096 * k) p (omega arith) (omega arith) t)

@@ -21,7 +21,8 @@ otherwise-straight kernel s (real q) = s q
 ends-straight : (a b c d : ℕ) (kernel : ℤ → Known) → ((q : ℤ) → Straight (kernel q)) → (p : ℕ) → StraightRow (Ends.ends a b c d kernel p)
 unfolding Ends.ends
 ends-straight a b c d kernel s p =
-    either (ltb p a || ltb b p) (names 0x4000) _ tt (either (within c 0x7fff p) (names 0x7fff) _ tt (either (within 0x8001 d p) (names 0x0001) _ tt (otherwise-straight kernel s (number 1 16 p))))
+    either (ltb p a || ltb b p) (names 0x4000) _ tt
+    (either (within c 0x7fff p) (names 0x7fff) _ tt (either (within 0x8001 d p) (names 0x0001) _ tt (otherwise-straight kernel s (number 1 16 p))))
 
 exp-kernel : (q : ℤ) → Straight (Exp.kernel q)
 exp-kernel q =

@@ -14,7 +14,8 @@ use Rattle.listing.proofs.Writing.{length-bytesOfAll}
 
 number-back : (p : List ℕ) (w : ℕ) (q : List ℕ) → numberAt (p ++ (bytesOf w ++ q)) (length p) ≡ w
 number-back p w q =
-    let low : getD (p ++ (bytesOf w ++ q)) (length p) 0 ≡ w % 256 = ap (λ (k : ℕ). getD (p ++ (bytesOf w ++ q)) k 0) (sym (add-zero (length p))) ∙ getD-append-add p (bytesOf w ++ q) 0 0 in
+    let low : getD (p ++ (bytesOf w ++ q)) (length p) 0 ≡ w % 256 =
+    ap (λ (k : ℕ). getD (p ++ (bytesOf w ++ q)) k 0) (sym (add-zero (length p))) ∙ getD-append-add p (bytesOf w ++ q) 0 0 in
     let high : getD (p ++ (bytesOf w ++ q)) (length p + 1) 0 ≡ w / 256 = getD-append-add p (bytesOf w ++ q) 1 0 in
     omega (arith, low, high)
 

@@ -42,7 +42,11 @@ module _ (b : List ℕ) (outputs : ℕ) where
   pub accepted : Accepted b outputs → refusalOf b outputs ≡ None
   unfolding refusalOf
   accepted a =
-      rw (sound b (a .sections), le-ltb (pastPatterns b) (length b) (a .nothing-after), le-ltb outputs (length (answered (functionsOf b) (patternsOf b))) (a .room))
+      rw (
+        sound b (a .sections),
+        le-ltb (pastPatterns b) (length b) (a .nothing-after),
+        le-ltb outputs (length (answered (functionsOf b) (patternsOf b))) (a .room),
+      )
 
 parts : (r : Refusal) (s t : Bool) → isNone (r before refusedWhen s After before refusedWhen t Output) ≡ true → (isNone r ≡ true) × (s ≡ false) × (t ≡ false)
 parts r s t e = go (isNone r) refl s t e
@@ -94,6 +98,7 @@ module _ (b output : List ℕ) (functions patterns : ℕ) (f : functions ≡ len
   writes-answered bytes a =
       let fs = functionsOf b in
       let ps = patternsOf b in
-      let e : b ++ section (answers fs ps) ≡ answered fs ps = ap (λ (l : List ℕ). l ++ section (answers fs ps)) (is-listing b bytes (a .sections) (a .nothing-after)) in
+      let e : b ++ section (answers fs ps) ≡ answered fs ps =
+      ap (λ (l : List ℕ). l ++ section (answers fs ps)) (is-listing b bytes (a .sections) (a .nothing-after)) in
       rw (functions-are b functions patterns f p, patterns-are b functions patterns f p, e)
       (sets-front output (answered fs ps) (a .room) ∙ sym (accepted-call b output a .1))

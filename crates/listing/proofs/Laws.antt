@@ -56,7 +56,8 @@ module _ (fs ps q : List ℕ) where
   pub sound-listing : Listable fs ps → Sound (listing fs ps ++ q)
   sound-listing l =
       let b = listing fs ps ++ q in
-      let size : length b ≡ 4 + 2 * length fs + 2 * length ps + length q = length-append (listing fs ps) q ∙ ap (λ (n : ℕ). n + length q) (length-listing fs ps) in
+      let size : length b ≡ 4 + 2 * length fs + 2 * length ps + length q =
+      length-append (listing fs ps) q ∙ ap (λ (n : ℕ). n + length q) (length-listing fs ps) in
       let functions : numberAt b 0 ≡ length fs = sym (length-functions b) ∙ ap length functions-back in
       let patterns : numberAt b (pastSection b 0) ≡ length ps = sym (length-patterns b) ∙ ap length patterns-back in
       record {

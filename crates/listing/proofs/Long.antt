@@ -17,7 +17,14 @@ longest = 4 + 2 * mostFunctions + 2 * mostPatterns
 
 pub sound-short : (b : List ℕ) → Sound b → pastPatterns b ≤ longest
 sound-short b s =
-    omega (arith, past-is b (length (functionsOf b)) (length (patternsOf b)) refl refl, length-functions b, length-patterns b, s .functions .high, s .patterns .high)
+    omega (
+      arith,
+      past-is b (length (functionsOf b)) (length (patternsOf b)) refl refl,
+      length-functions b,
+      length-patterns b,
+      s .functions .high,
+      s .patterns .high,
+    )
 
 pub long-refused : (b : List ℕ) (outputs : ℕ) → longest < length b → isNone (refusalOf b outputs) ≡ false
 long-refused b outputs h = go (isNone (refusalOf b outputs)) refl

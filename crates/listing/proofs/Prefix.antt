@@ -49,7 +49,8 @@ module _ (b : List ℕ) (k : ℕ) (within : k ≤ length b) where
     section-by false false e f =
         let l = ltb-false n least e in
         let g = ltb-false most n f in
-        whole (take k b) at least most (record { counted = omega (arith, size); low = omega (arith, same); high = omega (arith, same); present = omega (arith, size, same) })
+        whole (take k b) at least most
+        (record { counted = omega (arith, size); low = omega (arith, same); high = omega (arith, same); present = omega (arith, size, same) })
         ∙ sym (whole b at least most (record { counted = omega arith; low = l; high = g; present = omega arith }))
 
     section-same : sectionRefusal (take k b) at least most ≡ sectionRefusal b at least most

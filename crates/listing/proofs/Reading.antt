@@ -32,7 +32,8 @@ allKnown-snoc : (fs : List ℕ) (f : ℕ) → allKnown fs ≡ true → known f �
 allKnown-snoc [] f e k = rw k
 allKnown-snoc (g ∷ fs) f e k = let h = both (known g) (allKnown fs) e in rw (h .0) (allKnown-snoc fs f (h .1) k)
 
-pub all-known-next : (b : List ℕ) (at n : ℕ) → allKnown (numbersAt b at n) ≡ true → known (numberAt b (at + 2 * n)) ≡ true → allKnown (numbersAt b at (n + 1)) ≡ true
+pub all-known-next : (b : List ℕ) (at n : ℕ) → allKnown (numbersAt b at n) ≡ true
+    → known (numberAt b (at + 2 * n)) ≡ true → allKnown (numbersAt b at (n + 1)) ≡ true
 all-known-next b at n e k = rw numbersAt-next (allKnown-snoc (numbersAt b at n) (numberAt b (at + 2 * n)) e k)
 
 pub known-at : (b : List ℕ) (at n i : ℕ) → i < n → allKnown (numbersAt b at n) ≡ true → known (numberAt b (at + 2 * i)) ≡ true

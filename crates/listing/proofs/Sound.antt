@@ -37,7 +37,8 @@ module _ (b : List ℕ) where
 parts : (r s : Refusal) (k : Bool) → isNone (r before refusedWhen (not k) Function before s) ≡ true → (isNone r ≡ true) × (k ≡ true) × (isNone s ≡ true)
 parts r s k e = go (isNone r) refl k e
   where
-    go : (t : Bool) → isNone r ≡ t → (k : Bool) → isNone (cond t (refusedWhen (not k) Function before s) r) ≡ true → (isNone r ≡ true) × (k ≡ true) × (isNone s ≡ true)
+    go : (t : Bool) → isNone r ≡ t → (k : Bool) → isNone (cond t (refusedWhen (not k) Function before s) r) ≡ true
+        → (isNone r ≡ true) × (k ≡ true) × (isNone s ≡ true)
     go true h true e = (h, refl, e)
     go true h false e = absurd (false≢true e)
     go false h k e = absurd (false≢true (sym h ∙ e))
@@ -52,7 +53,8 @@ sound-of b e =
       patterns = whole-of b (pastSection b 0) 0 mostPatterns (h .2);
     }
 
-pub refused-sections : (b : List ℕ) (r : Refusal) → sectionsRefusal b ≡ r → isNone r ≡ false → record { functions = 0; patterns = 0; refusal = r } ≡ sectionsOf b
+pub refused-sections : (b : List ℕ) (r : Refusal) → sectionsRefusal b ≡ r
+    → isNone r ≡ false → record { functions = 0; patterns = 0; refusal = r } ≡ sectionsOf b
 refused-sections b r e n = rw (e, n)
 
 pub sound-sections : (b : List ℕ) (functions patterns : ℕ) → Sound b → functions ≡ length (functionsOf b) → patterns ≡ length (patternsOf b)

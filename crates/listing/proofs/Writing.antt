@@ -61,7 +61,8 @@ pub row-next : (l : List ℕ) (to f : ℕ) (b : List ℕ) (from i : ℕ)
     ≡ sets l to (bytesOfAll (map (answerOf f) (numbersAt b from (i + 1))))
 row-next l to f b from i =
     let row = map (answerOf f) (numbersAt b from i) in
-    let e : length (bytesOfAll row) ≡ 2 * i = length-bytesOfAll row ∙ ap (λ (k : ℕ). 2 * k) (length-map (numbersAt b from i) (answerOf f) ∙ length-numbersAt b from i) in
+    let e : length (bytesOfAll row) ≡ 2 * i =
+    length-bytesOfAll row ∙ ap (λ (k : ℕ). 2 * k) (length-map (numbersAt b from i) (answerOf f) ∙ length-numbersAt b from i) in
     rw (numbersAt-next, map-snoc, bytesOfAll-snoc, sets-append, e)
 
 -- one row more of the answers

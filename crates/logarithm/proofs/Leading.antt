@@ -28,7 +28,8 @@ module _ (k w f : ℕ) (is : k * 2 ^ 12 ≡ (2 ^ 12 + f) * 2 ^ w) (small : f < 2
   fraction-is : fraction k ≡ f
   unfolding fraction
   fraction-is =
-      let q : k * 2 ^ 12 / 2 ^ power k ≡ 2 ^ 12 + f = ap (λ (x : ℕ). k * 2 ^ 12 / 2 ^ x) power-is ∙ ap (λ (x : ℕ). x / 2 ^ w) is ∙ mul-div-cancel (2 ^ 12 + f) (pow-pos w) in
+      let q : k * 2 ^ 12 / 2 ^ power k ≡ 2 ^ 12 + f =
+      ap (λ (x : ℕ). k * 2 ^ 12 / 2 ^ x) power-is ∙ ap (λ (x : ℕ). x / 2 ^ w) is ∙ mul-div-cancel (2 ^ 12 + f) (pow-pos w) in
       omega arith
 
 pub decoded-power : {p w f : ℕ} → Decodes p w f → power (magnitude 1 16 p) ≡ w

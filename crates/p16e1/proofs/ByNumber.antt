@@ -47,7 +47,15 @@ row-straight f p =
     let from-4 = cond (eqb f 4) (Log2.row p) from-5 in
     let from-3 = cond (eqb f 3) (Ln.row p) from-4 in
     let from-2 = cond (eqb f 2) (Exp2.row p) from-3 in
-    either (eqb f 1) (Exp.row p) from-2 (exp-row p) (either (eqb f 2) (Exp2.row p) from-3 (exp2-row p) (either (eqb f 3) (Ln.row p) from-4 (ln-row p) (either (eqb f 4) (Log2.row p) from-5 (log2-row p) (either (eqb f 5) (SinPi.row p) from-6 (sin-pi-row p) (either (eqb f 6) (CosPi.row p) from-7 (cos-pi-row p) (either (eqb f 7) (TanPi.row p) from-8 (tan-pi-row p) (either (eqb f 8) (AtanPi.row p) from-9 (atan-pi-row p) (either (eqb f 9) (AsinPi.row p) (AcosPi.row p) (asin-pi-row p) (acos-pi-row p)))))))))
+    either (eqb f 1) (Exp.row p) from-2 (exp-row p)
+    (either (eqb f 2) (Exp2.row p) from-3 (exp2-row p)
+    (either (eqb f 3) (Ln.row p) from-4 (ln-row p)
+    (either (eqb f 4) (Log2.row p) from-5 (log2-row p)
+    (either (eqb f 5) (SinPi.row p) from-6 (sin-pi-row p)
+    (either (eqb f 6) (CosPi.row p) from-7 (cos-pi-row p)
+    (either (eqb f 7) (TanPi.row p) from-8 (tan-pi-row p)
+    (either (eqb f 8) (AtanPi.row p) from-9 (atan-pi-row p)
+    (either (eqb f 9) (AsinPi.row p) (AcosPi.row p) (asin-pi-row p) (acos-pi-row p)))))))))
 
 -- the computed answer is the row's
 pub meets-answer : (w : Row) → Meets w (answerTo w)

@@ -18,15 +18,23 @@ pub data Apart (a b : ℕ) : ℤ → Type 0 where
 module _ (k : ℕ) where
   low : (z : ℕ) → k < 137 → Apart k (137 + z) (pos k -ℤ pos 137 -ℤ pos z)
   low zero h = subst⁻¹ (Apart k 137) (rw (lt-ltb k 137 h, lt-ltb 0 (suc (137 - suc k)) (omega arith)) (ap negsuc (omega arith))) (below h)
-  low (suc z) h = subst⁻¹ (Apart k (137 + suc z)) (rw (lt-ltb k 137 h) (ap negsuc (let e : suc (137 - suc k + z) ≡ 137 + suc z - suc k = omega arith in e))) (below (omega arith))
+  low (suc z) h =
+      subst⁻¹ (Apart k (137 + suc z))
+      (rw (lt-ltb k 137 h) (ap negsuc (let e : suc (137 - suc k + z) ≡ 137 + suc z - suc k = omega arith in e))) (below (omega arith))
 
   high : (z : ℕ) → 137 ≤ k → Apart k (137 + z) (pos k -ℤ pos 137 -ℤ pos z)
   high zero h = subst⁻¹ (Apart k 137) (rw (le-ltb k 137 h) (ap pos (omega arith))) (above h)
   high (suc z) h = go (decLt (k - 137) (suc z))
     where
       go : Dec (k - 137 < suc z) → Apart k (137 + suc z) (pos k -ℤ pos 137 -ℤ pos (suc z))
-      go (yes l) = subst⁻¹ (Apart k (137 + suc z)) (rw (le-ltb k 137 h, lt-ltb (k - 137) (suc z) l) (ap negsuc (let e : suc z - suc (k - 137) ≡ 137 + suc z - suc k = omega arith in e))) (below (omega arith))
-      go (no l) = subst⁻¹ (Apart k (137 + suc z)) (rw (le-ltb k 137 h, le-ltb (k - 137) (suc z) (omega arith)) (ap pos (let e : k - 137 - suc z ≡ k - (137 + suc z) = omega arith in e))) (above (omega arith))
+      go (yes l) =
+          subst⁻¹ (Apart k (137 + suc z))
+          (rw (le-ltb k 137 h, lt-ltb (k - 137) (suc z) l) (ap negsuc (let e : suc z - suc (k - 137) ≡ 137 + suc z - suc k = omega arith in e)))
+          (below (omega arith))
+      go (no l) =
+          subst⁻¹ (Apart k (137 + suc z))
+          (rw (le-ltb k 137 h, le-ltb (k - 137) (suc z) (omega arith)) (ap pos (let e : k - 137 - suc z ≡ k - (137 + suc z) = omega arith in e)))
+          (above (omega arith))
 
   pub apart : (z : ℕ) → Apart k (137 + z) (pos k -ℤ pos 137 -ℤ pos z)
   apart z = go (decLt k 137)

@@ -27,7 +27,8 @@ stands es y d =
     ap (λ (x : ℕ). compare x (y * 2 ^ unit es 17)) (ap (λ (x : ℕ). d * x) (pow-add 2 63 (unit es 17)) ∙ sym (mul-assoc d (2 ^ 63) (2 ^ unit es 17)))
     ∙ sym (compare-times (d * 2 ^ 63) y (2 ^ unit es 17) (pow-pos (unit es 17)))
 
-module _ (es r t b q rest Z : ℕ) (l : Layout r t b) (h : q < 2 ^ t) (whole : index es 63 15 (omega arith) r t q + rest ≡ Z) (small : rest < 2 ^ es * 2 ^ (63 - t)) where
+module _ (es r t b q rest Z : ℕ) (l : Layout r t b) (h : q < 2 ^ t)
+    (whole : index es 63 15 (omega arith) r t q + rest ≡ Z) (small : rest < 2 ^ es * 2 ^ (63 - t)) where
   abbrev v : ℕ
   v = b + q
 
@@ -43,13 +44,17 @@ module _ (es r t b q rest Z : ℕ) (l : Layout r t b) (h : q < 2 ^ t) (whole : i
       ∙ ap (floated 63) (same-far es 63 15 (omega arith) r t q)
 
   from : magnitude es 17 v * 2 ^ 63 ≤ floated 63 Z
-  from = ⊎-elim (λ e. le-of-eq (is ∙ ap (floated 63) e)) (λ k. le-of-lt (subst⁻¹ (λ (x : ℕ). x < floated 63 Z) is (floated-grows 63 start Z k))) (eq-or-lt-of-le (let k : start ≤ Z = omega arith in k))
+  from =
+      ⊎-elim (λ e. le-of-eq (is ∙ ap (floated 63) e)) (λ k. le-of-lt (subst⁻¹ (λ (x : ℕ). x < floated 63 Z) is (floated-grows 63 start Z k)))
+      (eq-or-lt-of-le (let k : start ≤ Z = omega arith in k))
 
   below : floated 63 Z < magnitude es 17 (suc v) * 2 ^ 63
   below = subst⁻¹ (λ (x : ℕ). floated 63 Z < x) next-is (floated-grows 63 Z (start + 2 ^ es * 2 ^ (63 - t)) (omega arith))
 
   none-rests : magnitude es 17 v * 2 ^ 63 ≡ floated 63 Z → rest ≡ 0
-  none-rests e = ⊎-elim (λ z. z) (λ p. absurd (lt-irrefl (floated 63 Z) (subst (λ (x : ℕ). x < floated 63 Z) (sym is ∙ e) (floated-grows 63 start Z (omega arith))))) (eq-zero-or-pos rest)
+  none-rests e =
+      ⊎-elim (λ z. z) (λ p. absurd (lt-irrefl (floated 63 Z) (subst (λ (x : ℕ). x < floated 63 Z) (sym is ∙ e) (floated-grows 63 start Z (omega arith)))))
+      (eq-zero-or-pos rest)
 
   exactly : rest ≡ 0 → magnitude es 17 v * 2 ^ 63 ≡ floated 63 Z
   exactly e = is ∙ ap (floated 63) (let k : start ≡ Z = omega arith in k)
@@ -63,5 +68,6 @@ module _ (es r t b q rest Z : ℕ) (l : Layout r t b) (h : q < 2 ^ t) (whole : i
   answer u near far onto tie =
       let k = l .from in
       let m = pattern-most in
-      nearest es 16 (omega arith) (ratio (floated 63 Z) (2 ^ (63 + unit es 17))) (floated 63 Z) (2 ^ 63) (omega arith) (stands es (floated 63 Z)) v u from below (omega arith) (omega arith) near far
+      nearest es 16 (omega arith) (ratio (floated 63 Z) (2 ^ (63 + unit es 17))) (floated 63 Z) (2 ^ 63)
+      (omega arith) (stands es (floated 63 Z)) v u from below (omega arith) (omega arith) near far
       (λ g e. onto g (none-rests e)) (λ g. (exactly (tie g .0), tie g .1))

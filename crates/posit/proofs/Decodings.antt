@@ -71,5 +71,6 @@ one-decoding p w f w' f' d d' = go (decLt w w') (decLt w' w)
     go (no l) (yes k) = absurd (lead-below w' w f' f k (d' .small) (sym same))
     go (no l) (no k) =
         let e : w ≡ w' = omega arith in
-        let s : 2 ^ 12 + f ≡ 2 ^ 12 + f' = eq-of-mul-eq-mul-right (2 ^ w) (pow-pos w) (2 ^ 12 + f) (2 ^ 12 + f') (same ∙ ap (λ (x : ℕ). (2 ^ 12 + f') * 2 ^ x) (sym e)) in
+        let s : 2 ^ 12 + f ≡ 2 ^ 12 + f' =
+        eq-of-mul-eq-mul-right (2 ^ w) (pow-pos w) (2 ^ 12 + f) (2 ^ 12 + f') (same ∙ ap (λ (x : ℕ). (2 ^ 12 + f') * 2 ^ x) (sym e)) in
         (e, omega arith)

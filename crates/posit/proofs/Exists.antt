@@ -89,8 +89,10 @@ module _ (es n : ℕ) (few : 3 ≤ n) (c : Cut) where
   enough l =
       let s = some in
       let e : passes (divides es n c (found + 1 - 1)) (found + 1) ≡ false =
-      ap (λ (b : Bool). b && passes (divides es n c (found + 1 - 1)) (found + 1)) (sym (le-leb (found + 1) (largest n) (omega arith))) ∙ sym (tested (found + 1) (omega arith)) ∙ edge .outside in
-      failed (divides es n c found) found (subst (λ (x : ℕ). passes (divides es n c x) (found + 1) ≡ false) (let q : found + 1 - 1 ≡ found = omega arith in q) e)
+      ap (λ (b : Bool). b && passes (divides es n c (found + 1 - 1)) (found + 1)) (sym (le-leb (found + 1) (largest n) (omega arith)))
+      ∙ sym (tested (found + 1) (omega arith)) ∙ edge .outside in
+      failed (divides es n c found) found
+      (subst (λ (x : ℕ). passes (divides es n c x) (found + 1) ≡ false) (let q : found + 1 - 1 ≡ found = omega arith in q) e)
 
   pub found-rounded : Rounded es n c found
   found-rounded =
@@ -108,5 +110,7 @@ answered es n few (plus c) = found-rounded es n few c
 answered es n few (minus c) =
     let r = found-rounded es n few c in
     subst (λ (u : ℕ). Rounded es n c u)
-    (sym (opposite-twice n (descend (reaches es n c) (n - 1) 0) (r .least) (let h = r .most in let k : 2 ^ (n - 1) ≤ 2 ^ n = pow-mono (omega arith) in let z = pow-pos (n - 1) in omega arith)))
+    (sym
+    (opposite-twice n (descend (reaches es n c) (n - 1) 0) (r .least)
+    (let h = r .most in let k : 2 ^ (n - 1) ≤ 2 ^ n = pow-mono (omega arith) in let z = pow-pos (n - 1) in omega arith)))
     r

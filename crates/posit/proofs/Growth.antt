@@ -69,15 +69,18 @@ module _ (es N : ℕ) (some : 1 ≤ N) where
       ⊎-elim
       (λ (e : suc (suc v) ≡ 2 ^ suc N - 1).
       subst (λ (x : ℕ). magnitude es (N + 2) (suc v) < magnitude es (N + 2) x) (sym e)
-      (subst (λ (x : ℕ). magnitude es (N + 2) x < magnitude es (N + 2) (2 ^ suc N - 1)) (let b = before in let q : onesAt N 0 0 ≡ suc v = omega arith in q) last-step))
+      (subst (λ (x : ℕ). magnitude es (N + 2) x < magnitude es (N + 2) (2 ^ suc N - 1))
+      (let b = before in let q : onesAt N 0 0 ≡ suc v = omega arith in q) last-step))
       (λ l. grows es N v some (omega arith))
       (eq-or-lt-of-le h)
 
   climb : (v k : ℕ) → 1 ≤ v → v + suc k ≤ 2 ^ suc N - 1 → magnitude es (N + 2) v < magnitude es (N + 2) (v + suc k)
-  climb v zero lo hi = subst (λ (w : ℕ). magnitude es (N + 2) v < magnitude es (N + 2) w) (let e : suc v ≡ v + 1 = omega arith in e) (one-step v lo (omega arith))
+  climb v zero lo hi =
+      subst (λ (w : ℕ). magnitude es (N + 2) v < magnitude es (N + 2) w) (let e : suc v ≡ v + 1 = omega arith in e) (one-step v lo (omega arith))
   climb v (suc k) lo hi =
       lt-trans (climb v k lo (omega arith))
-      (subst (λ (w : ℕ). magnitude es (N + 2) (v + suc k) < magnitude es (N + 2) w) (let e : suc (v + suc k) ≡ v + suc (suc k) = omega arith in e) (one-step (v + suc k) (omega arith) (omega arith)))
+      (subst (λ (w : ℕ). magnitude es (N + 2) (v + suc k) < magnitude es (N + 2) w)
+      (let e : suc (v + suc k) ≡ v + suc (suc k) = omega arith in e) (one-step (v + suc k) (omega arith) (omega arith)))
 
 pub larger : (es n p q : ℕ) → 3 ≤ n → 1 ≤ p → p < q → q ≤ largest n → magnitude es n p < magnitude es n q
 larger es n p q few lo l hi =

@@ -42,7 +42,9 @@ pub mirrors : (es n : ℕ) → 3 ≤ n → (x : Known) (u : ℕ) → Rounds es n
 mirrors es n few nought u r = ap (opposite n) r ∙ opposite-zero n
 mirrors es n few (plus c) u r =
     subst⁻¹ (λ (v : ℕ). Rounded es n c v)
-    (opposite-twice n u (r .least) (let h = r .most in let z = pow-pos (n - 1) in let d : 2 ^ n ≡ 2 ^ suc (n - 1) = ap (λ (x : ℕ). 2 ^ x) (omega arith) in let e = pow-suc 2 (n - 1) in omega arith)) r
+    (opposite-twice n u (r .least)
+    (let h = r .most in let z = pow-pos (n - 1) in
+    let d : 2 ^ n ≡ 2 ^ suc (n - 1) = ap (λ (x : ℕ). 2 ^ x) (omega arith) in let e = pow-suc 2 (n - 1) in omega arith)) r
 mirrors es n few (minus c) u r = r
 
 -- where a pattern stands among all patterns in the order of their numbers, NaR first

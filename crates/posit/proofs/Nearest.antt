@@ -20,7 +20,9 @@ module _ (es n : ℕ) (few : 3 ≤ n) (c : Cut) (a b : ℕ) (some : 0 < b) (stan
       record {
         least = lo;
         most = hi;
-        reached = ⊎-elim (λ e. inl (sym e)) (λ h. inr (rw (stands (dividing es n (u - 1))) (reached (dividing es n (u - 1) * b) a u (p h .0) (p h .1)))) (eq-or-lt-of-le lo);
+        reached =
+            ⊎-elim (λ e. inl (sym e))
+            (λ h. inr (rw (stands (dividing es n (u - 1))) (reached (dividing es n (u - 1) * b) a u (p h .0) (p h .1)))) (eq-or-lt-of-le lo);
         enough = ⊎-elim (λ e. inl e) (λ h. inr (rw (stands (dividing es n u)) (enough (dividing es n u * b) a u (q h .0) (q h .1)))) (eq-or-lt-of-le hi);
       }
 

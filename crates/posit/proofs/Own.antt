@@ -37,7 +37,8 @@ module _ (es n u : ℕ) (few : 3 ≤ n) (l : 1 ≤ u) (h : u ≤ largest n) wher
   stands d =
       (λ i. compare (d * 2 ^ U) (mul-one (magnitude es n u) i * 2 ^ finer es n few i))
       ∙ ap (λ (x : ℕ). compare (d * 2 ^ U) x)
-      (ap (λ (x : ℕ). magnitude es n u * x) (pow-add 2 U (2 ^ es) ∙ mul-comm (2 ^ U) (2 ^ (2 ^ es))) ∙ sym (mul-assoc (magnitude es n u) (2 ^ (2 ^ es)) (2 ^ U)))
+      (ap (λ (x : ℕ). magnitude es n u * x) (pow-add 2 U (2 ^ es) ∙ mul-comm (2 ^ U) (2 ^ (2 ^ es)))
+      ∙ sym (mul-assoc (magnitude es n u) (2 ^ (2 ^ es)) (2 ^ U)))
       ∙ sym (compare-times d M (2 ^ U) (pow-pos U))
 
   pub own-positive : Rounded es n (ratio (magnitude es n u * 1) (2 ^ U)) u
@@ -49,14 +50,20 @@ module _ (es n u : ℕ) (few : 3 ≤ n) (l : 1 ≤ u) (h : u ≤ largest n) wher
             ⊎-elim (λ e. inl (sym e))
             (λ k. inr
             (rw (stands (dividing es n (u - 1)))
-            (let a : dividing es n (u - 1) < M = subst (λ (x : ℕ). dividing es n (u - 1) < magnitude es n x * 2 ^ (2 ^ es)) (let e : suc (u - 1) ≡ u = omega arith in e) (above-dividing es n (u - 1) few (omega arith) (omega arith)) in
+            (let a : dividing es n (u - 1) < M = subst (λ (x : ℕ). dividing es n (u - 1) < magnitude es n x * 2 ^ (2 ^ es))
+            (let e : suc (u - 1) ≡ u = omega arith in e) (above-dividing es n (u - 1) few (omega arith) (omega arith)) in
             reached (dividing es n (u - 1)) M u (omega arith) (λ e. absurd (omega arith)))))
             (eq-or-lt-of-le l);
-        enough = inr (rw (stands (dividing es n u)) (let b = below-dividing es n u few l h in enough (dividing es n u) M u (omega arith) (λ e. absurd (omega arith))));
+        enough =
+            let b = below-dividing es n u few l h in
+            inr (rw (stands (dividing es n u)) (enough (dividing es n u) M u (omega arith) (λ e. absurd (omega arith))));
       }
 
   pub magnitude-some : 0 < magnitude es n u
-  magnitude-some = positive (magnitude es n u) (2 ^ (2 ^ es)) (lt-of-le-of-lt zero-le (subst (λ (x : ℕ). magnitude es (n + 1) (2 * u - 1) < x) (followed es n u few l h) (let d = doubled n few in larger es (n + 1) (2 * u - 1) (2 * u) (omega arith) (omega arith) (omega arith) (omega arith))))
+  magnitude-some =
+      positive (magnitude es n u) (2 ^ (2 ^ es)) (lt-of-le-of-lt zero-le
+      (subst (λ (x : ℕ). magnitude es (n + 1) (2 * u - 1) < x) (followed es n u few l h)
+      (let d = doubled n few in larger es (n + 1) (2 * u - 1) (2 * u) (omega arith) (omega arith) (omega arith) (omega arith))))
 
   own-cut : ratio (magnitude es n u * 1) (2 ^ U) ≡ ratio (magnitude es n u * up (negℤ (pos U))) (down (negℤ (pos U)))
   own-cut = λ i. ratio (magnitude es n u * sym (up-minus U) i) (sym (down-minus U) i)
@@ -65,7 +72,10 @@ module _ (es n u : ℕ) (few : 3 ≤ n) (l : 1 ≤ u) (h : u ≤ largest n) wher
   own-plus = rw (dyadic-plus (magnitude es n u) (negℤ (pos U)) magnitude-some) (subst (λ (c : Cut). Rounded es n c u) own-cut own-positive)
 
   own-minus : (p : ℕ) → opposite n p ≡ u → Rounds es n (dyadic (negℤ (pos (magnitude es n u))) (negℤ (pos U))) p
-  own-minus p e = rw (dyadic-minus (magnitude es n u) (negℤ (pos U)) magnitude-some) (subst⁻¹ (λ (v : ℕ). Rounded es n (ratio (magnitude es n u * up (negℤ (pos U))) (down (negℤ (pos U)))) v) e (subst (λ (c : Cut). Rounded es n c u) own-cut own-positive))
+  own-minus p e =
+      rw (dyadic-minus (magnitude es n u) (negℤ (pos U)) magnitude-some)
+      (subst⁻¹ (λ (v : ℕ). Rounded es n (ratio (magnitude es n u * up (negℤ (pos U))) (down (negℤ (pos U)))) v) e
+      (subst (λ (c : Cut). Rounded es n c u) own-cut own-positive))
 
 real-same : (q r : ℤ) → real q ≡ real r → q ≡ r
 real-same q r e = cc
@@ -81,7 +91,8 @@ own es n p few top q e = go (decLt 0 p) (decLt p (2 ^ (n - 1))) (decLt (2 ^ (n -
         let s : p ≡ 0 = omega arith in
         subst (λ (z : ℤ). Rounds es n (over z (unit es n)) p) (real-same (pos 0) q (sym (number-zero es n) ∙ ap (number es n) (sym s) ∙ e)) s
     go (yes z) (yes b) d =
-        subst (λ (z : ℤ). Rounds es n (over z (unit es n)) p) (real-same (pos (magnitude es n p)) q (sym (number-plus es n p z b) ∙ e)) (own-plus es n p few z (omega arith))
+        subst (λ (z : ℤ). Rounds es n (over z (unit es n)) p)
+        (real-same (pos (magnitude es n p)) q (sym (number-plus es n p z b) ∙ e)) (own-plus es n p few z (omega arith))
     go (yes z) (no b) (yes d) =
         let o = opposite-is n p z in
         let f = half in

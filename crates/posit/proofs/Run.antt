@@ -55,7 +55,8 @@ zeros zero t q h =
     subst (λ (k : ℕ). run 0 k (2 ^ t + q) ≡ 0) (let e : suc t ≡ zero + suc t = omega arith in e)
     (run-other 0 t (2 ^ t + q) (λ e. let f : bit t (2 ^ t + q) ≡ 1 = ap (λ (x : ℕ). bit t (x + q)) (sym (one-mul (2 ^ t))) ∙ bit-high t 1 q h in omega arith))
 zeros (suc m) t q h =
-    let small : 2 ^ t + q < 2 ^ (m + suc t) = lt-of-lt-of-le (let e = pow-suc 2 t in let g : 2 ^ t + q < 2 ^ suc t = omega arith in g) (pow-mono (omega arith)) in
+    let small : 2 ^ t + q < 2 ^ (m + suc t) =
+    lt-of-lt-of-le (let e = pow-suc 2 t in let g : 2 ^ t + q < 2 ^ suc t = omega arith in g) (pow-mono (omega arith)) in
     ap (λ (k : ℕ). run 0 k (2 ^ t + q)) (let e : suc m + suc t ≡ suc (m + suc t) = omega arith in e)
     ∙ run-same 0 (m + suc t) (2 ^ t + q) (bit-none (m + suc t) (2 ^ t + q) small)
     ∙ ap suc (zeros m t q h)
@@ -67,7 +68,11 @@ onesAt (suc m) t q = 1 * 2 ^ (m + suc t) + onesAt m t q
 
 pub ones-lt : (m t q : ℕ) → q < 2 ^ t → onesAt m t q < 2 ^ (m + suc t)
 ones-lt zero t q h = lt-of-lt-of-le h (pow-mono (omega arith))
-ones-lt (suc m) t q h = let k = ones-lt m t q h in let e = pow-suc 2 (m + suc t) in let f : 2 ^ suc (m + suc t) ≡ 2 ^ (suc m + suc t) = ap (λ (x : ℕ). 2 ^ x) (omega arith) in omega arith
+ones-lt (suc m) t q h =
+    let k = ones-lt m t q h in
+    let e = pow-suc 2 (m + suc t) in
+    let f : 2 ^ suc (m + suc t) ≡ 2 ^ (suc m + suc t) = ap (λ (x : ℕ). 2 ^ x) (omega arith) in
+    omega arith
 
 pub ones : (m t q : ℕ) → q < 2 ^ t → run 1 (m + suc t) (onesAt m t q) ≡ m
 ones zero t q h =
@@ -79,7 +84,8 @@ ones (suc m) t q h =
     ∙ ap suc (run-front 1 (m + suc t) 1 (onesAt m t q) (ones-lt m t q h) ∙ ones m t q h)
 
 pub zeros-top : (m t q k : ℕ) → q < 2 ^ t → k ≡ m + t → 1 ≤ m → bit k (2 ^ t + q) ≡ 0
-zeros-top m t q k h e l = bit-none k (2 ^ t + q) (lt-of-lt-of-le (let d = pow-suc 2 t in let g : 2 ^ t + q < 2 ^ suc t = omega arith in g) (pow-mono (omega arith)))
+zeros-top m t q k h e l =
+    bit-none k (2 ^ t + q) (lt-of-lt-of-le (let d = pow-suc 2 t in let g : 2 ^ t + q < 2 ^ suc t = omega arith in g) (pow-mono (omega arith)))
 
 pub ones-top : (m t q k : ℕ) → q < 2 ^ t → k ≡ m + t → 1 ≤ m → bit k (onesAt m t q) ≡ 1
 ones-top zero t q k h e l = absurd (omega arith)
@@ -90,6 +96,7 @@ ones-top (suc m) t q k h e l =
 pub ones-mod : (m t q : ℕ) → q < 2 ^ t → onesAt m t q % 2 ^ t ≡ q
 ones-mod zero t q h = mod-eq-of-lt h
 ones-mod (suc m) t q h =
-    ap (λ (x : ℕ). (x + onesAt m t q) % 2 ^ t) (one-mul (2 ^ (m + suc t)) ∙ ap (λ (x : ℕ). 2 ^ x) (let d : m + suc t ≡ suc m + t = omega arith in d) ∙ pow-add 2 (suc m) t)
+    ap (λ (x : ℕ). (x + onesAt m t q) % 2 ^ t)
+    (one-mul (2 ^ (m + suc t)) ∙ ap (λ (x : ℕ). 2 ^ x) (let d : m + suc t ≡ suc m + t = omega arith in d) ∙ pow-add 2 (suc m) t)
     ∙ mul-add-mod-self-right (2 ^ suc m) (2 ^ t) (onesAt m t q)
     ∙ ones-mod m t q h

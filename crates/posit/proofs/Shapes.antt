@@ -3,7 +3,8 @@ use Prim.Native.Nat.{ℕ, zero, suc, _+_, _-_, _*_, _/_, _%_, _^_, _≤_, _<_}
 use mathlib.Core.Path.{_≡_, _∙_, subst, subst⁻¹, sym, ap, refl}
 use mathlib.Core.Logic.{_⊎_, ⊎-elim}
 use native.Mathlib.Omega.{arith}
-use native.Mathlib.Nat.{eq-or-lt-of-le, suc-mul, pow-suc, mul-assoc, mul-comm, mul-left-comm, one-mul, zero-mul, add-mul, mul-lt-mul-of-pos-right, mul-le-mul, lt-of-lt-of-le, le-trans, le-of-eq, le-refl, mod-lt, lt-of-mul-lt-mul-right, le-add-right, mul-pos}
+use native.Mathlib.Nat.{eq-or-lt-of-le, suc-mul, pow-suc, mul-assoc, mul-comm, mul-left-comm, one-mul, zero-mul, add-mul, mul-lt-mul-of-pos-right}
+use native.Mathlib.Nat.{mul-le-mul, lt-of-lt-of-le, le-trans, le-of-eq, le-refl, mod-lt, lt-of-mul-lt-mul-right, le-add-right, mul-pos}
 use lib.Pow.{pow-pos, pow-add, pow-mono, shr-mono, split}
 use Rattle.posit.specs.Number.{magnitude}
 use Rattle.posit.proofs.Run.{onesAt}
@@ -43,9 +44,11 @@ module _ (es L N : ℕ) (fits : N ≤ L) where
 
   pub shape-magnitude : (v r t q : ℕ) → Shape N v r t q → q < 2 ^ t → magnitude es (N + 2) v * 2 ^ L ≡ floated L (index r t q)
   shape-magnitude v r t q (zs m e l ev er) h =
-      ap (λ (x : ℕ). magnitude es (N + 2) x * 2 ^ L) ev ∙ zeros-magnitude es (N + 2) L m t q (omega arith) l h (omega arith) ∙ ap (λ (x : ℕ). floated L (index x t q)) (sym er)
+      ap (λ (x : ℕ). magnitude es (N + 2) x * 2 ^ L) ev ∙ zeros-magnitude es (N + 2) L m t q (omega arith) l h (omega arith)
+      ∙ ap (λ (x : ℕ). floated L (index x t q)) (sym er)
   shape-magnitude v r t q (os m e l ev er) h =
-      ap (λ (x : ℕ). magnitude es (N + 2) x * 2 ^ L) ev ∙ ones-magnitude es (N + 2) L m t q (omega arith) l h (omega arith) ∙ ap (λ (x : ℕ). floated L (index x t q)) (sym er)
+      ap (λ (x : ℕ). magnitude es (N + 2) x * 2 ^ L) ev ∙ ones-magnitude es (N + 2) L m t q (omega arith) l h (omega arith)
+      ∙ ap (λ (x : ℕ). floated L (index x t q)) (sym er)
 
   pub record Next (v r t q : ℕ) : Type 0 where
     pub r' : ℕ
@@ -66,7 +69,10 @@ module _ (es L N : ℕ) (fits : N ≤ L) where
   next-far : (r t t' q : ℕ) → t ≤ L → suc q ≡ 2 ^ t → index (suc r) t' 0 ≡ index r t q + step t
   next-far r t t' q k e =
       let p : 2 ^ t * 2 ^ (L - t) ≡ 2 ^ L = sym (pow-add 2 t (L - t)) ∙ ap (λ (x : ℕ). 2 ^ x) (let z : t + (L - t) ≡ L = omega arith in z) in
-      let full : suc q * 2 ^ es * 2 ^ (L - t) ≡ 1 * 2 ^ es * 2 ^ L = ap (λ (x : ℕ). x * 2 ^ es * 2 ^ (L - t)) e ∙ (let z : 2 ^ t * 2 ^ es * 2 ^ (L - t) ≡ 2 ^ es * (2 ^ t * 2 ^ (L - t)) = simp (mul-assoc, mul-comm, mul-left-comm) in z) ∙ ap (λ (x : ℕ). 2 ^ es * x) p ∙ ap (λ (x : ℕ). x * 2 ^ L) (sym (one-mul (2 ^ es))) in
+      let full : suc q * 2 ^ es * 2 ^ (L - t) ≡ 1 * 2 ^ es * 2 ^ L =
+      ap (λ (x : ℕ). x * 2 ^ es * 2 ^ (L - t)) e
+      ∙ (let z : 2 ^ t * 2 ^ es * 2 ^ (L - t) ≡ 2 ^ es * (2 ^ t * 2 ^ (L - t)) = simp (mul-assoc, mul-comm, mul-left-comm) in z)
+      ∙ ap (λ (x : ℕ). 2 ^ es * x) p ∙ ap (λ (x : ℕ). x * 2 ^ L) (sym (one-mul (2 ^ es))) in
       let a = same-far r t q in
       let b : suc r * 2 ^ es * 2 ^ L ≡ r * 2 ^ es * 2 ^ L + 1 * 2 ^ es * 2 ^ L =
       ap (λ (x : ℕ). x * 2 ^ L) (suc-mul r (2 ^ es) ∙ ap (λ (y : ℕ). r * 2 ^ es + y) (sym (one-mul (2 ^ es)))) ∙ add-mul (r * 2 ^ es) (1 * 2 ^ es) (2 ^ L) in
@@ -79,7 +85,14 @@ module _ (es L N : ℕ) (fits : N ≤ L) where
       let b : 2 ^ (m + suc zero) ≡ 2 ^ suc N = ap (λ (x : ℕ). 2 ^ x) (omega arith) in
       absurd (omega arith)
   carry-ones v r (suc t) q m e l ev er k top =
-      record { r' = suc r; t' = t; q' = 0; shape = os (suc m) (omega arith) (omega arith) (ap suc ev ∙ sym (ones-carry m t q k)) (omega arith); small = pow-pos t; far = next-far r (suc t) t q (omega arith) k }
+      record {
+        r' = suc r;
+        t' = t;
+        q' = 0;
+        shape = os (suc m) (omega arith) (omega arith) (ap suc ev ∙ sym (ones-carry m t q k)) (omega arith);
+        small = pow-pos t;
+        far = next-far r (suc t) t q (omega arith) k;
+      }
 
   pub next : (v r t q : ℕ) → Shape N v r t q → q < 2 ^ t → v + 2 < 2 ^ suc N → Next v r t q
   next v r t q sh h top = ⊎-elim (λ e. carry sh e) (λ l. stay sh l) (eq-or-lt-of-le h)
@@ -90,8 +103,25 @@ module _ (es L N : ℕ) (fits : N ≤ L) where
 
       carry : Shape N v r t q → suc q ≡ 2 ^ t → Next v r t q
       carry (zs zero e l ev er) k = absurd (omega arith)
-      carry (zs (suc zero) e l ev er) k = record { r' = suc r; t' = t; q' = 0; shape = os 1 e l (let d : 2 ^ (0 + suc t) ≡ 2 ^ suc t = ap (λ (x : ℕ). 2 ^ x) (omega arith) in let f = pow-suc 2 t in omega arith) (omega arith); small = pow-pos t; far = next-far r t t q (omega arith) k }
-      carry (zs (suc (suc m)) e l ev er) k = record { r' = suc r; t' = suc t; q' = 0; shape = zs (suc m) (omega arith) (omega arith) (let d = pow-suc 2 t in omega arith) (omega arith); small = pow-pos (suc t); far = next-far r t (suc t) q (omega arith) k }
+      carry (zs (suc zero) e l ev er) k =
+          record {
+            r' = suc r;
+            t' = t;
+            q' = 0;
+            shape = os 1 e l
+                (let d : 2 ^ (0 + suc t) ≡ 2 ^ suc t = ap (λ (x : ℕ). 2 ^ x) (omega arith) in let f = pow-suc 2 t in omega arith) (omega arith);
+            small = pow-pos t;
+            far = next-far r t t q (omega arith) k;
+          }
+      carry (zs (suc (suc m)) e l ev er) k =
+          record {
+            r' = suc r;
+            t' = suc t;
+            q' = 0;
+            shape = zs (suc m) (omega arith) (omega arith) (let d = pow-suc 2 t in omega arith) (omega arith);
+            small = pow-pos (suc t);
+            far = next-far r t (suc t) q (omega arith) k;
+          }
       carry (os m e l ev er) k = carry-ones v r t q m e l ev er k top
 
   -- so the closed form holds one place further, up to the next regime

@@ -2,7 +2,8 @@
 use Prim.Native.Nat.{ℕ, suc, _+_, _-_, _*_, _/_, _%_, _^_, _≤_, _<_}
 use mathlib.Core.Path.{_≡_, _∙_, sym, ap}
 use native.Mathlib.Omega.{arith}
-use native.Mathlib.Nat.{add-mul, mul-assoc, mul-right-comm, mul-div-cancel, mul-div-mul-right, mul-mod-left, add-zero, one-mul, mul-le-mul-left, mul-one, le-trans, le-of-eq, mul-add-mod-self-right, mul-add-div-right}
+use native.Mathlib.Nat.{add-mul, mul-assoc, mul-right-comm, mul-div-cancel, mul-div-mul-right, mul-mod-left, add-zero}
+use native.Mathlib.Nat.{one-mul, mul-le-mul-left, mul-one, le-trans, le-of-eq, mul-add-mod-self-right, mul-add-div-right}
 use lib.Arith.{mod-mul}
 use lib.Pow.{pow-pos, pow-add, low}
 use Rattle.posit.specs.Number.{magnitude, run, bit, regime}
@@ -22,17 +23,23 @@ module _ (L t w X : ℕ) (h : t ≤ L) (g : t ≤ w) where
   whole = ap (λ (x : ℕ). 2 ^ x) (let e : L ≡ t + (L - t) = omega arith in e) ∙ pow-add 2 t (L - t)
 
   over : (w * 2 ^ L + X * 2 ^ (L - t)) / 2 ^ L ≡ w + X / 2 ^ t
-  over = mul-add-div-right (pow-pos L) w (X * 2 ^ (L - t)) ∙ ap (λ (x : ℕ). w + x) (ap (λ (x : ℕ). X * 2 ^ (L - t) / x) whole ∙ mul-div-mul-right X (2 ^ t) (pow-pos (L - t)))
+  over =
+      mul-add-div-right (pow-pos L) w (X * 2 ^ (L - t))
+      ∙ ap (λ (x : ℕ). w + x) (ap (λ (x : ℕ). X * 2 ^ (L - t) / x) whole ∙ mul-div-mul-right X (2 ^ t) (pow-pos (L - t)))
 
   under : (w * 2 ^ L + X * 2 ^ (L - t)) % 2 ^ L ≡ X % 2 ^ t * 2 ^ (L - t)
-  under = mul-add-mod-self-right w (2 ^ L) (X * 2 ^ (L - t)) ∙ ap (λ (x : ℕ). X * 2 ^ (L - t) % x) whole ∙ mod-times X (2 ^ t) (2 ^ (L - t)) (pow-pos t) (pow-pos (L - t))
+  under =
+      mul-add-mod-self-right w (2 ^ L) (X * 2 ^ (L - t)) ∙ ap (λ (x : ℕ). X * 2 ^ (L - t) % x) whole
+      ∙ mod-times X (2 ^ t) (2 ^ (L - t)) (pow-pos t) (pow-pos (L - t))
 
   -- the division in a magnitude is exact
   pub value-times : value t w X * 2 ^ t ≡ (2 ^ t + X % 2 ^ t) * 2 ^ (w + X / 2 ^ t)
   value-times =
       let A : ℕ = 2 ^ t + X % 2 ^ t in
       let W : ℕ = w + X / 2 ^ t in
-      let e : A * 2 ^ W ≡ A * 2 ^ (W - t) * 2 ^ t = ap (λ (x : ℕ). A * x) (ap (λ (x : ℕ). 2 ^ x) (let k : W ≡ W - t + t = omega arith in k) ∙ pow-add 2 (W - t) t) ∙ sym (mul-assoc A (2 ^ (W - t)) (2 ^ t)) in
+      let e : A * 2 ^ W ≡ A * 2 ^ (W - t) * 2 ^ t =
+      ap (λ (x : ℕ). A * x) (ap (λ (x : ℕ). 2 ^ x) (let k : W ≡ W - t + t = omega arith in k) ∙ pow-add 2 (W - t) t)
+      ∙ sym (mul-assoc A (2 ^ (W - t)) (2 ^ t)) in
       ap (λ (x : ℕ). x / 2 ^ t * 2 ^ t) e ∙ ap (λ (x : ℕ). x * 2 ^ t) (mul-div-cancel (A * 2 ^ (W - t)) (pow-pos t)) ∙ sym e
 
   pub value-floated : value t w X * 2 ^ L ≡ floated L (w * 2 ^ L + X * 2 ^ (L - t))
@@ -43,7 +50,8 @@ module _ (L t w X : ℕ) (h : t ≤ L) (g : t ≤ w) where
       ∙ ap (λ (x : ℕ). x * 2 ^ (w + X / 2 ^ t)) (add-mul (2 ^ t) (X % 2 ^ t) (2 ^ (L - t)))
       ∙ (λ i. (sym whole i + sym under i) * 2 ^ sym over i)
 
-pub magnitude-is : (es n p b m t w q : ℕ) → bit (n - 2) p ≡ b → run b (n - 1) p ≡ m → n - 2 - m ≡ t → regime es n b m ≡ w → p % 2 ^ t ≡ q → magnitude es n p ≡ value t w (q * 2 ^ es)
+pub magnitude-is : (es n p b m t w q : ℕ) → bit (n - 2) p ≡ b → run b (n - 1) p ≡ m
+    → n - 2 - m ≡ t → regime es n b m ≡ w → p % 2 ^ t ≡ q → magnitude es n p ≡ value t w (q * 2 ^ es)
 unfolding magnitude
 magnitude-is es n p b m t w q eb em et ew eq =
     let M : run (bit (n - 2) p) (n - 1) p ≡ m = ap (λ (x : ℕ). run x (n - 1) p) eb ∙ em in
@@ -62,7 +70,8 @@ module _ (es n L m t q : ℕ) (e : n ≡ m + t + 2) (some : 1 ≤ m) (h : q < 2 
       (magnitude-is es n (2 ^ t + q) 0 m t (t * 2 ^ es) q (zeros-top m t q (n - 2) h (omega arith) some)
       (ap (λ (k : ℕ). run 0 k (2 ^ t + q)) (let k : n - 1 ≡ m + suc t = omega arith in k) ∙ zeros m t q h)
       (omega arith)
-      (let k : n - 2 ≡ m + t = omega arith in ap (λ (x : ℕ). x * 2 ^ es - m * 2 ^ es) k ∙ (let a = add-mul m t (2 ^ es) in let z : (m + t) * 2 ^ es - m * 2 ^ es ≡ t * 2 ^ es = omega arith in z))
+      (let k : n - 2 ≡ m + t = omega arith in
+      ap (λ (x : ℕ). x * 2 ^ es - m * 2 ^ es) k ∙ (let a = add-mul m t (2 ^ es) in let z : (m + t) * 2 ^ es - m * 2 ^ es ≡ t * 2 ^ es = omega arith in z))
       (ap (λ (x : ℕ). (x + q) % 2 ^ t) (sym (one-mul (2 ^ t))) ∙ low 1 t h))
       ∙ value-floated L t (t * 2 ^ es) (q * 2 ^ es) fits (grown t (omega arith))
 

@@ -4,7 +4,8 @@ use Prim.Native.Nat.{ℕ, zero, suc, _+_, _-_, _*_, _/_, _%_, _^_, _≤_, _<_}
 use mathlib.Core.Path.{_≡_, _∙_, subst, sym, ap}
 use mathlib.Core.Logic.{⊎-elim}
 use native.Mathlib.Omega.{arith}
-use native.Mathlib.Nat.{add-mul, mul-assoc, mul-comm, mul-left-comm, mul-right-comm, suc-mul, pow-suc, add-comm, le-refl, eq-or-lt-of-le, eq-of-mul-eq-mul-right, mul-add-div-right, mul-add-mod-self-right}
+use native.Mathlib.Nat.{add-mul, mul-assoc, mul-comm, mul-left-comm, mul-right-comm, suc-mul, pow-suc, add-comm}
+use native.Mathlib.Nat.{le-refl, eq-or-lt-of-le, eq-of-mul-eq-mul-right, mul-add-div-right, mul-add-mod-self-right}
 use lib.Pow.{pow-pos, pow-add}
 use Rattle.posit.specs.Number.{magnitude, unit}
 use Rattle.posit.specs.Rounding.{dividing, largest}
@@ -43,10 +44,12 @@ module _ (es N : ℕ) (some : 1 ≤ N) where
 
   further : (r t q : ℕ) → t ≤ N → index es L (suc N) (le-refl (suc N)) (suc r) (suc t) (2 * q) ≡ 2 ^ es * 2 ^ L + index es L N (omega arith) r t q
   further r t q h =
-      let a : suc r * 2 ^ es * 2 ^ L ≡ r * 2 ^ es * 2 ^ L + 2 ^ es * 2 ^ L = ap (λ (x : ℕ). x * 2 ^ L) (suc-mul r (2 ^ es)) ∙ add-mul (r * 2 ^ es) (2 ^ es) (2 ^ L) in
+      let a : suc r * 2 ^ es * 2 ^ L ≡ r * 2 ^ es * 2 ^ L + 2 ^ es * 2 ^ L =
+      ap (λ (x : ℕ). x * 2 ^ L) (suc-mul r (2 ^ es)) ∙ add-mul (r * 2 ^ es) (2 ^ es) (2 ^ L) in
       let p : 2 ^ (L - t) ≡ 2 ^ (L - suc t) * 2 = ap (λ (x : ℕ). 2 ^ x) (let z : L - t ≡ suc (L - suc t) = omega arith in z) ∙ pow-suc 2 (L - suc t) in
       let b : 2 * q * 2 ^ es * 2 ^ (L - suc t) ≡ q * 2 ^ es * 2 ^ (L - t) =
-      (let z : 2 * q * 2 ^ es * 2 ^ (L - suc t) ≡ q * 2 ^ es * (2 ^ (L - suc t) * 2) = simp (mul-assoc, mul-comm, mul-left-comm) in z) ∙ ap (λ (x : ℕ). q * 2 ^ es * x) (sym p) in
+      (let z : 2 * q * 2 ^ es * 2 ^ (L - suc t) ≡ q * 2 ^ es * (2 ^ (L - suc t) * 2) = simp (mul-assoc, mul-comm, mul-left-comm) in z)
+      ∙ ap (λ (x : ℕ). q * 2 ^ es * x) (sym p) in
       omega arith
 
   shaped : (v r t q : ℕ) → Shape N v r t q → q < 2 ^ t → t ≤ N → magnitude es (suc N + 2) (2 * v) ≡ magnitude es (N + 2) v * 2 ^ (2 ^ es)
@@ -64,9 +67,12 @@ module _ (es N : ℕ) (some : 1 ≤ N) where
 
   last : magnitude es (suc N + 2) (2 * (2 ^ suc N - 1)) ≡ magnitude es (N + 2) (2 ^ suc N - 1) * 2 ^ (2 ^ es)
   last =
-      ap (magnitude es (suc N + 2)) (let b = before es (suc N) (omega arith) in let d = pow-suc 2 (suc N) in let e : 2 * (2 ^ suc N - 1) ≡ onesAt (suc N) 0 0 = omega arith in e)
+      ap (magnitude es (suc N + 2))
+      (let b = before es (suc N) (omega arith) in let d = pow-suc 2 (suc N) in let e : 2 * (2 ^ suc N - 1) ≡ onesAt (suc N) 0 0 = omega arith in e)
       ∙ before-magnitude es (suc N) (omega arith)
-      ∙ ap (λ (x : ℕ). 2 ^ x) (let a = suc-mul N (2 ^ es) in let z : (suc N - 1) * 2 ^ es ≡ N * 2 ^ es = ap (λ (x : ℕ). x * 2 ^ es) (omega arith) in let e : suc N * 2 ^ es + (suc N - 1) * 2 ^ es ≡ N * 2 ^ es + N * 2 ^ es + 2 ^ es = omega arith in e)
+      ∙ ap (λ (x : ℕ). 2 ^ x)
+      (let a = suc-mul N (2 ^ es) in let z : (suc N - 1) * 2 ^ es ≡ N * 2 ^ es = ap (λ (x : ℕ). x * 2 ^ es) (omega arith) in
+      let e : suc N * 2 ^ es + (suc N - 1) * 2 ^ es ≡ N * 2 ^ es + N * 2 ^ es + 2 ^ es = omega arith in e)
       ∙ pow-add 2 (N * 2 ^ es + N * 2 ^ es) (2 ^ es)
       ∙ ap (λ (x : ℕ). x * 2 ^ (2 ^ es)) (sym (last-magnitude es N some))
 
@@ -74,7 +80,8 @@ module _ (es N : ℕ) (some : 1 ≤ N) where
   wider zero l h = absurd (omega arith)
   wider (suc k) l h =
       ⊎-elim (λ (e : suc k ≡ 2 ^ suc N - 1). rw e last)
-      (λ g. let f = find es L N (omega arith) k some (omega arith) in shaped (suc k) (f .r) (f .t) (f .q) (f .shape) (f .small) (tail-few (suc k) (f .r) (f .t) (f .q) (f .shape)))
+      (λ g. let f = find es L N (omega arith) k some (omega arith) in
+      shaped (suc k) (f .r) (f .t) (f .q) (f .shape) (f .small) (tail-few (suc k) (f .r) (f .t) (f .q) (f .shape)))
       (eq-or-lt-of-le h)
 
 -- the unit one bit wider
@@ -92,9 +99,11 @@ module _ (es n u : ℕ) (few : 3 ≤ n) (l : 1 ≤ u) where
   pub below-dividing : u ≤ largest n → magnitude es n u * 2 ^ (2 ^ es) < dividing es n u
   below-dividing h =
       let d = doubled n few in
-      subst (λ (x : ℕ). x < dividing es n u) (followed es n u few l h) (larger es (n + 1) (2 * u) (2 * u + 1) (omega arith) (omega arith) (omega arith) (omega arith))
+      subst (λ (x : ℕ). x < dividing es n u) (followed es n u few l h)
+      (larger es (n + 1) (2 * u) (2 * u + 1) (omega arith) (omega arith) (omega arith) (omega arith))
 
   pub above-dividing : suc u ≤ largest n → dividing es n u < magnitude es n (suc u) * 2 ^ (2 ^ es)
   above-dividing h =
       let d = doubled n few in
-      subst (λ (x : ℕ). dividing es n u < x) (followed es n (suc u) few (omega arith) h) (larger es (n + 1) (2 * u + 1) (2 * suc u) (omega arith) (omega arith) (omega arith) (omega arith))
+      subst (λ (x : ℕ). dividing es n u < x) (followed es n (suc u) few (omega arith) h)
+      (larger es (n + 1) (2 * u + 1) (2 * suc u) (omega arith) (omega arith) (omega arith) (omega arith))

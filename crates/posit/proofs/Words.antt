@@ -135,16 +135,22 @@ module _ (f s t b : ℕ) (top : 2 ^ 63 ≤ f) (fits : f < 2 ^ 64) (l : Layout (s
     pub gathered : 0 < f % 2 ^ 15 → Rounded 1 16 (ratio (f * 2 ^ s) (2 ^ 93)) ((wide + 0xFFFF_FFFF_FFFF + 1) / 2 ^ 49)
     gathered some =
         let h = mod-lt word (pow-pos 48) in
-        subst⁻¹ (Rounded 1 16 (ratio (f * 2 ^ s) (2 ^ 93))) (ap (λ (y : ℕ). (y + 0xFFFF_FFFF_FFFF + 1) / 2 ^ 49) pattern-above ∙ carried v cut 1 h (omega arith) (omega arith))
+        subst⁻¹ (Rounded 1 16 (ratio (f * 2 ^ s) (2 ^ 93)))
+        (ap (λ (y : ℕ). (y + 0xFFFF_FFFF_FFFF + 1) / 2 ^ 49) pattern-above ∙ carried v cut 1 h (omega arith) (omega arith))
         (off (λ z. let e = kept z in omega arith))
 
     pub clear : f % 2 ^ 15 ≡ 0 → Rounded 1 16 (ratio (f * 2 ^ s) (2 ^ 93)) ((wide + 0xFFFF_FFFF_FFFF + wide / 2 ^ 49 % 2) / 2 ^ 49)
-    clear none = subst⁻¹ (Rounded 1 16 (ratio (f * 2 ^ s) (2 ^ 93))) (λ i. (pattern-above i + 0xFFFF_FFFF_FFFF + half i % 2) / 2 ^ 49) (⊎-elim exact inexact (eq-zero-or-pos cut))
+    clear none =
+        subst⁻¹ (Rounded 1 16 (ratio (f * 2 ^ s) (2 ^ 93)))
+        (λ i. (pattern-above i + 0xFFFF_FFFF_FFFF + half i % 2) / 2 ^ 49) (⊎-elim exact inexact (eq-zero-or-pos cut))
       where
         exact : cut ≡ 0 → Rounded 1 16 (ratio (f * 2 ^ s) (2 ^ 93)) ((v * 2 ^ 48 + cut + 0xFFFF_FFFF_FFFF + v / 2 % 2) / 2 ^ 49)
         exact z =
-            subst⁻¹ (Rounded 1 16 (ratio (f * 2 ^ s) (2 ^ 93))) (ap (λ (y : ℕ). (v * 2 ^ 48 + y + 0xFFFF_FFFF_FFFF + v / 2 % 2) / 2 ^ 49) z ∙ not-carried v (v / 2 % 2) (omega arith))
-            (on (let e = rest-is in let g : cut * 2 ^ (2 + k) ≡ 0 = ap (λ (y : ℕ). y * 2 ^ (2 + k)) z ∙ zero-mul (2 ^ (2 + k)) in let d = dropped none in omega arith))
+            subst⁻¹ (Rounded 1 16 (ratio (f * 2 ^ s) (2 ^ 93)))
+            (ap (λ (y : ℕ). (v * 2 ^ 48 + y + 0xFFFF_FFFF_FFFF + v / 2 % 2) / 2 ^ 49) z ∙ not-carried v (v / 2 % 2) (omega arith))
+            (on
+            (let e = rest-is in let g : cut * 2 ^ (2 + k) ≡ 0 = ap (λ (y : ℕ). y * 2 ^ (2 + k)) z ∙ zero-mul (2 ^ (2 + k)) in
+            let d = dropped none in omega arith))
 
         inexact : 0 < cut → Rounded 1 16 (ratio (f * 2 ^ s) (2 ^ 93)) ((v * 2 ^ 48 + cut + 0xFFFF_FFFF_FFFF + v / 2 % 2) / 2 ^ 49)
         inexact p =

@@ -30,7 +30,9 @@ power f l h = go (decLt f 1075)
         rw (lt-ltb f 1075 k)
         (record {
           small = omega arith;
-          counts = one-mul (2 ^ 1074) ∙ ap (λ (x : ℕ). 2 ^ x) {x = 1074} (let e : 1074 ≡ f - 1 + suc (1075 - suc f) = omega arith in e) ∙ pow-add 2 (f - 1) (suc (1075 - suc f));
+          counts =
+              one-mul (2 ^ 1074) ∙ ap (λ (x : ℕ). 2 ^ x) {x = 1074} (let e : 1074 ≡ f - 1 + suc (1075 - suc f) = omega arith in e)
+              ∙ pow-add 2 (f - 1) (suc (1075 - suc f));
         })
     go (no k) =
         rw (le-ltb f 1075 (omega arith))

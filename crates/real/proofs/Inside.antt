@@ -25,7 +25,8 @@ use Rattle.real.proofs.Mirror.{mirrored, negated-twice}
 use Rattle.real.proofs.OneAnswer.{one-pattern}
 
 -- a number n * 2 ^ d between the dividing numbers on both sides of u
-between : (u n : ℕ) (d : ℤ) → 1 ≤ u → u < 2 ^ 15 → dividing 1 16 (u - 1) * down d < n * up d * 2 ^ 30 → n * up d * 2 ^ 30 < dividing 1 16 u * down d → Rounds 1 16 (dyadic (pos n) d) u
+between : (u n : ℕ) (d : ℤ) → 1 ≤ u → u < 2 ^ 15 → dividing 1 16 (u - 1) * down d < n * up d * 2 ^ 30
+    → n * up d * 2 ^ 30 < dividing 1 16 u * down d → Rounds 1 16 (dyadic (pos n) d) u
 between u zero d l h lo hi = absurd (let z : zero * up d * 2 ^ 30 ≡ 0 = ap (λ (x : ℕ). x * 2 ^ 30) (zero-mul (up d)) ∙ zero-mul (2 ^ 30) in omega arith)
 between u (suc n) d l h lo hi =
     rounded 1 16 (omega arith) (ratio (suc n * up d) (down d)) (suc n * up d * 2 ^ 30) (down d) (down-pos d) (λ k. refl) u l (omega arith)
@@ -45,7 +46,8 @@ module _ (A B C D N : ℕ) (e : A * 2 ^ 30 ≡ B * D) where
 
 module _ (u : ℕ) (least : 1 ≤ u) (most : u < 2 ^ 15) where
   -- between two floats that are the dividing numbers
-  positive : (l x r : Float) → HasValue l false (dividing 1 16 (u - 1)) (2 ^ 30) → HasValue r false (dividing 1 16 u) (2 ^ 30) → T (lt l x) → T (lt x r) → FromF64 x u
+  positive : (l x r : Float) → HasValue l false (dividing 1 16 (u - 1)) (2 ^ 30)
+      → HasValue r false (dividing 1 16 u) (2 ^ 30) → T (lt l x) → T (lt x r) → FromF64 x u
   unfolding lt
   positive nan x r v w a b = absurd v
   positive (inf s) x r v w a b = absurd v
@@ -108,7 +110,8 @@ module _ (p : ℕ) (s : Span) (x : Float) (some : 0 < p) (top : p < 2 ^ 16) (v :
   inside-plus : p < 2 ^ 15 → FromF64 x p
   inside-plus h =
       positive p some h (s .lower) x (s .upper)
-      (subst (λ (k : ℕ). HasValue (s .lower) false (magnitude 1 17 k) (2 ^ 30)) (let e : 2 * p - 1 ≡ 2 * (p - 1) + 1 = omega arith in e) (above-zero (2 * p - 1) (s .lower) (omega arith) (omega arith) lower))
+      (subst (λ (k : ℕ). HasValue (s .lower) false (magnitude 1 17 k) (2 ^ 30))
+      (let e : 2 * p - 1 ≡ 2 * (p - 1) + 1 = omega arith in e) (above-zero (2 * p - 1) (s .lower) (omega arith) (omega arith) lower))
       (above-zero (2 * p + 1) (s .upper) (omega arith) (omega arith) upper) l r
 
   inside-minus : 2 ^ 15 < p → FromF64 x p

@@ -47,10 +47,13 @@ no-more false (suc m) e false (suc n) d h =
     both-plus (at-most (suc m * up e) (down e) (suc n * up d) (down d) (down-pos e) (down-pos d) (plus-le (suc m * up e * down d) (suc n * up d * down e) h))
 no-more false zero e true zero d h = same-nought
 no-more false zero e true (suc n) d h =
-    let k = eqb→eq (zero * up e * down d) (suc n * up d * down e) (and-l (eqb (zero * up e * down d) (suc n * up d * down e)) (eqb (zero * up e * down d) 0) h) in
+    let k = eqb→eq (zero * up e * down d) (suc n * up d * down e)
+    (and-l (eqb (zero * up e * down d) (suc n * up d * down e)) (eqb (zero * up e * down d) 0) h) in
     let p = some n d e in let z = none e d in absurd (omega arith)
 no-more false (suc m) e true n d h =
-    let k = eqb→eq (suc m * up e * down d) 0 (and-r (eqb (suc m * up e * down d) (n * up d * down e)) (eqb (suc m * up e * down d) 0) h) in let p = some m e d in absurd (omega arith)
+    let k = eqb→eq (suc m * up e * down d) 0 (and-r (eqb (suc m * up e * down d) (n * up d * down e)) (eqb (suc m * up e * down d) 0) h) in
+    let p = some m e d in
+    absurd (omega arith)
 no-more true zero e false zero d h = same-nought
 no-more true zero e false (suc n) d h = to-plus
 no-more true (suc m) e false zero d h = from-minus

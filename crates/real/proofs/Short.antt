@@ -36,7 +36,9 @@ regime-most n (suc b) m h = omega arith
 module _ (t A W : ℕ) (tail : t ≤ 15) (lead : A < 2 ^ suc t) (power : W ≤ 61) where
   shifted : t ≤ W → Short (suc W) (A * 2 ^ W / 2 ^ t)
   shifted h =
-      let e : A * 2 ^ W ≡ A * 2 ^ (W - t) * 2 ^ t = ap (λ (x : ℕ). A * x) (ap (λ (x : ℕ). 2 ^ x) (let k : W ≡ W - t + t = omega arith in k) ∙ pow-add 2 (W - t) t) ∙ sym (mul-assoc A (2 ^ (W - t)) (2 ^ t)) in
+      let e : A * 2 ^ W ≡ A * 2 ^ (W - t) * 2 ^ t =
+      ap (λ (x : ℕ). A * x) (ap (λ (x : ℕ). 2 ^ x) (let k : W ≡ W - t + t = omega arith in k) ∙ pow-add 2 (W - t) t)
+      ∙ sym (mul-assoc A (2 ^ (W - t)) (2 ^ t)) in
       let f : A * 2 ^ W / 2 ^ t ≡ A * 2 ^ (W - t) = ap (λ (x : ℕ). x / 2 ^ t) e ∙ mul-div-cancel (A * 2 ^ (W - t)) (pow-pos t) in
       record {
         digits = A;
@@ -51,7 +53,9 @@ module _ (t A W : ℕ) (tail : t ≤ 15) (lead : A < 2 ^ suc t) (power : W ≤ 6
   cut h =
       let s : A * 2 ^ W < 2 ^ (suc t + W) = shl-lt (suc t) W lead in
       let b : A * 2 ^ W / 2 ^ t < 2 ^ suc W =
-      div-lt-iff-lt-mul (pow-pos t) .1 (subst⁻¹ (λ (x : ℕ). A * 2 ^ W < x) (sym (pow-add 2 (suc W) t)) (subst⁻¹ (λ (x : ℕ). A * 2 ^ W < 2 ^ x) (let k : suc W + t ≡ suc t + W = omega arith in k) s)) in
+      div-lt-iff-lt-mul (pow-pos t) .1
+      (subst⁻¹ (λ (x : ℕ). A * 2 ^ W < x) (sym (pow-add 2 (suc W) t))
+      (subst⁻¹ (λ (x : ℕ). A * 2 ^ W < 2 ^ x) (let k : suc W + t ≡ suc t + W = omega arith in k) s)) in
       record {
         digits = A * 2 ^ W / 2 ^ t;
         shift = 0;

@@ -54,15 +54,19 @@ fields w q h l =
     let E : ℕ = w - 13 + q / 2 ^ 13 in
     let e : 2 ^ 14 + q * 2 % 2 ^ 14 ≡ A * 2 = omega arith in
     let f : 2 ^ (w + q * 2 / 2 ^ 14) ≡ 2 ^ 13 * 2 ^ E = ap (λ (k : ℕ). 2 ^ k) (let g : w + q * 2 / 2 ^ 14 ≡ 13 + E = omega arith in g) ∙ pow-add 2 13 E in
-    let g : A * 2 * (2 ^ 13 * 2 ^ E) ≡ A * 2 ^ E * 2 ^ 14 = mul-assoc A 2 (2 ^ 13 * 2 ^ E) ∙ ap (λ (k : ℕ). A * k) (sym (mul-assoc 2 (2 ^ 13) (2 ^ E)) ∙ mul-comm (2 ^ 14) (2 ^ E)) ∙ sym (mul-assoc A (2 ^ E) (2 ^ 14)) in
+    let g : A * 2 * (2 ^ 13 * 2 ^ E) ≡ A * 2 ^ E * 2 ^ 14 =
+    mul-assoc A 2 (2 ^ 13 * 2 ^ E) ∙ ap (λ (k : ℕ). A * k) (sym (mul-assoc 2 (2 ^ 13) (2 ^ E)) ∙ mul-comm (2 ^ 14) (2 ^ E))
+    ∙ sym (mul-assoc A (2 ^ E) (2 ^ 14)) in
     (λ i. e i * f i / 2 ^ 14) ∙ ap (λ (k : ℕ). k / 2 ^ 14) g ∙ mul-div-cancel (A * 2 ^ E) (pow-pos 14)
 
 module _ (v : ℕ) (l : 2 ^ 14 ≤ v) (h : v < 3 * 2 ^ 14) where
   one-zero : v < 2 ^ 15 → magnitude 1 17 v ≡ value 14 28 (v % 2 ^ 14 * 2 ^ 1)
-  one-zero g = magnitude-is 1 17 v 0 1 14 28 (v % 2 ^ 14) (omega arith) (run-same 0 15 v (omega arith) ∙ ap suc (run-other 0 14 v (λ e. omega arith))) refl refl refl
+  one-zero g =
+      magnitude-is 1 17 v 0 1 14 28 (v % 2 ^ 14) (omega arith) (run-same 0 15 v (omega arith) ∙ ap suc (run-other 0 14 v (λ e. omega arith))) refl refl refl
 
   one-one : 2 ^ 15 ≤ v → magnitude 1 17 v ≡ value 14 30 (v % 2 ^ 14 * 2 ^ 1)
-  one-one g = magnitude-is 1 17 v 1 1 14 30 (v % 2 ^ 14) (omega arith) (run-same 1 15 v (omega arith) ∙ ap suc (run-other 1 14 v (λ e. omega arith))) refl refl refl
+  one-one g =
+      magnitude-is 1 17 v 1 1 14 30 (v % 2 ^ 14) (omega arith) (run-same 1 15 v (omega arith) ∙ ap suc (run-other 1 14 v (λ e. omega arith))) refl refl refl
 
   placed : (w : ℕ) → 13 ≤ w → w - 13 + v % 2 ^ 14 / 2 ^ 13 ≡ 13 + v / 2 ^ 13 → value 14 w (v % 2 ^ 14 * 2 ^ 1) ≡ (2 ^ 13 + v % 2 ^ 13) * 2 ^ (13 + v / 2 ^ 13)
   placed w k e = fields w (v % 2 ^ 14) k (omega arith) ∙ (λ i. (2 ^ 13 + (let f : v % 2 ^ 14 % 2 ^ 13 ≡ v % 2 ^ 13 = omega arith in f i)) * 2 ^ e i)

@@ -32,8 +32,10 @@ eight p = eight-of (number 1 16 p)
 
 bits-of : (z : Number) (x : Float) → Holds 28 z x → littleEndian 8 (toBits binary64 x) ≡ bytesOf z
 bits-of nar x v = absurd v
-bits-of (real (pos m)) x v = ap (littleEndian 8) (same-bits x (over28 (pos m)) false m (2 ^ 28) (pow-pos 28) (v .1) (refl, ap (λ (n : ℕ). n * 2 ^ 28) (mul-one m)))
-bits-of (real (negsuc m)) x v = ap (littleEndian 8) (same-bits x (over28 (negsuc m)) true (suc m) (2 ^ 28) (pow-pos 28) (v .1) (refl, ap (λ (n : ℕ). n * 2 ^ 28) (mul-one (suc m))))
+bits-of (real (pos m)) x v =
+    ap (littleEndian 8) (same-bits x (over28 (pos m)) false m (2 ^ 28) (pow-pos 28) (v .1) (refl, ap (λ (n : ℕ). n * 2 ^ 28) (mul-one m)))
+bits-of (real (negsuc m)) x v =
+    ap (littleEndian 8) (same-bits x (over28 (negsuc m)) true (suc m) (2 ^ 28) (pow-pos 28) (v .1) (refl, ap (λ (n : ℕ). n * 2 ^ 28) (mul-one (suc m))))
 
 pub real-bytes : (p : ℕ) (x : Float) → ToF64 p (Real x) → littleEndian 8 (toBits binary64 x) ≡ bytesOf (number 1 16 p)
 real-bytes p x v = bits-of (number 1 16 p) x v

@@ -27,7 +27,8 @@ counted b output n l e f =
 
 -- with room for four bytes, or without
 by-room : (t : Bool) (r : Refusal) (output : List ℕ)
-    → (cond t 0 4 ≡ length (cond t [] (reply r))) × (cond t output (reply r ++ drop 4 output) ≡ cond t [] (reply r) ++ drop (length (cond t [] (reply r))) output)
+    → (cond t 0 4 ≡ length (cond t [] (reply r)))
+    × (cond t output (reply r ++ drop 4 output) ≡ cond t [] (reply r) ++ drop (length (cond t [] (reply r))) output)
 by-room true r output = (refl, refl)
 by-room false r output = (refl, refl)
 

@@ -1,4 +1,5 @@
 pub mod Products
+pub mod Horner
 pub mod Whole
 pub mod Sizes
 pub mod Signs

@@ -38,7 +38,9 @@ past-one p l h = rw (lt-ltb 0x4000 p l, lt-ltb p 0xC000 h)
 
 pub near-zero : (p : ℕ) → (p < 165) ⊎ (65307 < p) → row p ≡ names 0x3000
 unfolding row
-near-zero p c = ⊎-elim (λ h. rw (le-ltb 0x4000 p (omega arith), lt-ltb p 165 h)) (λ h. rw (lt-ltb 0x4000 p (omega arith), le-ltb p 0xC000 (omega arith), le-ltb p 165 (omega arith), lt-ltb 65307 p h)) c
+near-zero p c =
+    ⊎-elim (λ h. rw (le-ltb 0x4000 p (omega arith), lt-ltb p 165 h))
+    (λ h. rw (lt-ltb 0x4000 p (omega arith), le-ltb p 0xC000 (omega arith), le-ltb p 165 (omega arith), lt-ltb 65307 p h)) c
 
 abs-signed : (b : Bool) (m : ℕ) → natAbs (withSign b m) ≡ m
 abs-signed true zero = refl
@@ -47,7 +49,12 @@ abs-signed false m = refl
 
 pub by-arc : (p r : ℕ) → 165 ≤ p → p ≤ 65307 → (0x4000 < p → 0xC000 ≤ p) → Rounds 1 16 (over (pos (arc p (magnitude 1 16 (size 16 p)))) 30) r → Meets (row p) r
 unfolding row
-by-arc p r l h out m = rw (first (decLt 0x4000 p), number-signed 1 16 p (omega arith) (λ e. let k = out (omega arith) in omega arith), abs-signed (ltb 0x8000 p) (magnitude 1 16 (size 16 p))) m
+by-arc p r l h out m =
+    rw (
+      first (decLt 0x4000 p),
+      number-signed 1 16 p (omega arith) (λ e. let k = out (omega arith) in omega arith),
+      abs-signed (ltb 0x8000 p) (magnitude 1 16 (size 16 p)),
+    ) m
   where
     first : Dec (0x4000 < p) → row p ≡ otherwise p (number 1 16 p)
     first (yes k) = rw (lt-ltb 0x4000 p k, le-ltb p 0xC000 (out k), le-ltb p 165 l, le-ltb 65307 p h)

@@ -38,4 +38,5 @@ pub by-arc : (p r : ℕ) → 0 < p → p < 0x10000 → size 16 p ≤ 0x4000 → 
     → Meets (row p) (cond (ltb 0x8000 p) (opposite 16 r) r)
 unfolding row
 by-arc p r l h s m =
-    rw (le-ltb 0x4000 (size 16 p) s) (number-meets p (otherwise (size 16 p)) (λ k. rounds (over (pos (arc (size 16 p) k)) 30)) (λ q. refl) l h (not-nar p s) r m)
+    rw (le-ltb 0x4000 (size 16 p) s)
+    (number-meets p (otherwise (size 16 p)) (λ k. rounds (over (pos (arc (size 16 p) k)) 30)) (λ q. refl) l h (not-nar p s) r m)

@@ -58,7 +58,8 @@ returns-4 : tie.Need-returns-4
 returns-4 c =
     let a = c .before .before .before .before .before .before .before .before .before .before .before .args in
     let g = c .before .before .fill in
-    accepted-does (a .function) (now (a .input)) (now (a .output)) (a .start) (a .limit) (c .before .before .before .before .smaller .result) (g .result) (g .last .1 .1 .0)
+    accepted-does (a .function) (now (a .input)) (now (a .output)) (a .start) (a .limit)
+    (c .before .before .before .before .smaller .result) (g .result) (g .last .1 .1 .0)
     (not-refused (a .function) _ _ _ (not-false _ (cc)) (omega arith) (omega arith))
     (c .before .before .before .before .smaller .ensures) (g .ensures .0) (g .ensures .1)
 

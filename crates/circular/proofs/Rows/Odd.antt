@@ -35,7 +35,8 @@ module _ {other : Number → Row} {f : ℕ → Row} (odd : Odd other f) (p : ℕ
       pub whole-zero : 31743 < s → Meets (whole-apart other p) 0
       whole-zero k = let z = size-some p h not-nar (λ e. omega arith) in rw (le-leb 31744 (size 16 p) (omega arith), le-leb (size 16 p) 0x7fff (omega arith))
 
-      pub sign-back : s ≤ 31743 → (s ≡ 0 → ⊥) → (x u r : ℕ) → x ≡ magnitude 1 16 s → Meets (f x) u → r ≡ cond (ltb 0x8000 p) (opposite 16 u) u → Meets (whole-apart other p) r
+      pub sign-back : s ≤ 31743 → (s ≡ 0 → ⊥) → (x u r : ℕ) → x ≡ magnitude 1 16 s
+          → Meets (f x) u → r ≡ cond (ltb 0x8000 p) (opposite 16 u) u → Meets (whole-apart other p) r
       sign-back k some x u r units meets signed =
           let z = size-some p h not-nar (λ e. some (omega arith)) in
           let meets-here : Meets (f (magnitude 1 16 (size 16 p))) u = rw (units, sized) at meets in

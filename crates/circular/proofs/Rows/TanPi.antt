@@ -17,7 +17,9 @@ tangent-odd = record { at-nar = refl; at-zero = refl; at-real = λ q. refl }
 module _ (r : ℕ) (a : r ≡ 0 → ⊥) (b : r ≡ 2 ^ 27 → ⊥) (c : r ≡ 2 ^ 26 → ⊥) (d : r ≡ 3 * 2 ^ 26 → ⊥) (m u : ℕ) (h : Rounds 1 16 (over (pos m) 28) u) where
   pub below-half : r < 2 ^ 27 → m ≡ poly r → Meets (remainder r) u
   unfolding remainder
-  below-half l e = rw (ne-eqb r 0 a, ne-eqb r (2 ^ 27) b, ne-eqb r (2 ^ 26) c, ne-eqb r (3 * 2 ^ 26) d, lt-ltb r (2 ^ 27) l) (subst (λ (k : ℕ). Rounds 1 16 (over (pos k) 28) u) e h)
+  below-half l e =
+      rw (ne-eqb r 0 a, ne-eqb r (2 ^ 27) b, ne-eqb r (2 ^ 26) c, ne-eqb r (3 * 2 ^ 26) d, lt-ltb r (2 ^ 27) l)
+      (subst (λ (k : ℕ). Rounds 1 16 (over (pos k) 28) u) e h)
 
   pub above-half : 2 ^ 27 ≤ r → m ≡ poly (2 ^ 28 - r) → Meets (remainder r) (opposite 16 u)
   unfolding remainder

@@ -123,8 +123,10 @@ returns-3 c =
 write-answered-requires : tie.Need-write-answered-requires
 write-answered-requires c κs =
     let d = c .before .before .before in
-    let known = ap allKnown (functions-are (b d) (found d .functions) (found d .patterns) (functions-is d) (patterns-is d)) ∙ all-sound d .all-known in
-    (omega (arith, past d, sections-within (b d) (all-sound d)), (known, (omega (arith, count d), omega (arith, past d, sections-within (b d) (all-sound d), count d))))
+    let known = ap allKnown (functions-are (b d) (found d .functions) (found d .patterns) (functions-is d) (patterns-is d)) ∙ all-sound d .all-known in (
+      omega (arith, past d, sections-within (b d) (all-sound d)),
+      (known, (omega (arith, count d), omega (arith, past d, sections-within (b d) (all-sound d), count d))),
+    )
 
 same-length : tie.Need-same-length
 same-length c = search needs

@@ -36,8 +36,11 @@ returns-2 c =
     let out = now (a .args .output) in
     let n = c .before .before .before .number in
     let h : 4 ≤ length out = omega arith in
-    rw (le-ltb (length out) 4 h)
-    (refl, c .before .before .put-number .ensures ∙ sets-front out (0xFF ∷ 0xFF ∷ bytesOf (n .result)) h ∙ ap (λ (k : ℕ). 0xFF ∷ 0xFF ∷ bytesOf k ++ drop 4 out) (n .ensures))
+    rw (le-ltb (length out) 4 h) (
+      refl,
+      c .before .before .put-number .ensures ∙ sets-front out (0xFF ∷ 0xFF ∷ bytesOf (n .result)) h
+          ∙ ap (λ (k : ℕ). 0xFF ∷ 0xFF ∷ bytesOf k ++ drop 4 out) (n .ensures),
+    )
 
 pub put-refusal-spec : {M : Type 1} → statement M
 put-refusal-spec = tie.close (tie.spec returns slice-write-output slice-write-output-2 number-requires put-number-requires same-length returns-2)

@@ -62,7 +62,10 @@ module _ {row : Number → Row} {poly : ℕ → ℕ} {U B : ℕ} {answer : ℤ �
           rw (minus-above l B (omega arith), le-ltb l B (omega arith), s .of-plus (l - B)) (rw (le-ltb l B (omega arith), size) at m)
 
   -- the answer at a pattern above zero, from what decoding it gives
-  pub at-plus : {p w f g n r : ℕ} (u : ℕ) → 0 < p → p < 0x8000 → Decodes p w f → g ≡ poly f → n ≡ (w * U + g - B) + (B - (w * U + g)) → Rounds 1 16 (sized (ltb (w * U + g) B) n) u → r ≡ cond (ltb (w * U + g) B) (opposite 16 u) u → Meets (row (number 1 16 p)) r
+  pub at-plus : {p w f g n r : ℕ} (u : ℕ) → 0 < p → p < 0x8000 → Decodes p w f → g ≡ poly f → n ≡ (w * U + g - B) + (B - (w * U + g))
+      → Rounds 1 16 (sized (ltb (w * U + g) B) n) u → r ≡ cond (ltb (w * U + g) B) (opposite 16 u) u → Meets (row (number 1 16 p)) r
   at-plus {p} {w} {f} {g} {n} {r} u l h d e size m signed =
-      let is : U * power (magnitude 1 16 p) + poly (fraction (magnitude 1 16 p)) ≡ w * U + g = (λ i. U * decoded-power d i + poly (decoded-fraction d i)) ∙ (λ i. mul-comm U w i + sym e i) in
-      rw (number-plus 1 16 p l h, plus-has (magnitude 1 16 p) (magnitude-some 1 16 p (lit≤ tt) l (omega arith)), is, signed) (difference-rounds (w * U + g) u (rw size at m))
+      let is : U * power (magnitude 1 16 p) + poly (fraction (magnitude 1 16 p)) ≡ w * U + g =
+      (λ i. U * decoded-power d i + poly (decoded-fraction d i)) ∙ (λ i. mul-comm U w i + sym e i) in
+      rw (number-plus 1 16 p l h, plus-has (magnitude 1 16 p) (magnitude-some 1 16 p (lit≤ tt) l (omega arith)), is, signed)
+      (difference-rounds (w * U + g) u (rw size at m))

@@ -48,8 +48,12 @@ loop-again c =
     let given = c .before .before .before .before in
     let read = given .before in
     let l = read .before .before .loop in
-    let b = now (read .before .before .before .before .before .args .bytes) in
-    (omega arith, search needs, real-more b (l .output) _ (l .i) (read .bits-at .result) (given .from-bits .result) (search needs) (l .inv .2) (read .bits-at .ensures) (given .from-bits .ensures) (put .ensures))
+    let b = now (read .before .before .before .before .before .args .bytes) in (
+      omega arith,
+      search needs,
+      real-more b (l .output) _ (l .i) (read .bits-at .result) (given .from-bits .result)
+          (search needs) (l .inv .2) (read .bits-at .ensures) (given .from-bits .ensures) (put .ensures),
+    )
 
 mul-result : tie.Need-mul-result Inv-loop μ-loop
 mul-result c = search needs

@@ -60,8 +60,12 @@ loop-again c =
     let read = answered .before in
     let l = read .before .before .loop in
     let b = now (read .before .before .before .before .before .args .bytes) in
-    let nar = nar-bytes (read .pattern-at .result) (subst (ToF64 (read .pattern-at .result)) (told .enum-told .given .1) (answered .to-f64 .ensures)) in
-    (omega arith, search needs, pattern-more b (l .output) _ _ (l .i) (read .pattern-at .result) (search needs) (l .inv .2) (read .pattern-at .ensures) nar (put .ensures))
+    let nar = nar-bytes (read .pattern-at .result) (subst (ToF64 (read .pattern-at .result)) (told .enum-told .given .1) (answered .to-f64 .ensures)) in (
+      omega arith,
+      search needs,
+      pattern-more b (l .output) _ _ (l .i) (read .pattern-at .result)
+          (search needs) (l .inv .2) (read .pattern-at .ensures) nar (put .ensures),
+    )
 
 float-to-bits-put-word : tie.Need-float-to-bits-put-word Inv-loop μ-loop
 float-to-bits-put-word c =

@@ -13,7 +13,8 @@ use Rattle.reals.proofs.put_word.Statement.{statement}
 use Rattle.reals.proofs.put_word.Tie as tie
 
 abbrev Inv-loop : tie.InvT-loop
-Inv-loop output₀ at word rest₀ j₀ output rest j = (j ≤ 8) × (length output ≡ length output₀) × (sets output (at + j) (littleEndian (8 - j) rest) ≡ sets output₀ at (littleEndian 8 word))
+Inv-loop output₀ at word rest₀ j₀ output rest j =
+    (j ≤ 8) × (length output ≡ length output₀) × (sets output (at + j) (littleEndian (8 - j) rest) ≡ sets output₀ at (littleEndian 8 word))
 
 abbrev μ-loop : tie.MeasureT-loop
 μ-loop output₀ at word rest₀ j₀ output rest j = 8 - j

@@ -42,7 +42,8 @@ returns c =
     let fs = numbersAt b 2 (a .functions) in
     let ps = numbersAt b (2 + 2 * a .functions + 2) (a .patterns) in
     let count : length (answers fs ps) ≡ a .functions * a .patterns =
-    length-answers fs ps ∙ ap (λ (n : ℕ). n * length ps) (length-numbersAt b 2 (a .functions)) ∙ ap (λ (n : ℕ). a .functions * n) (length-numbersAt b (2 + 2 * a .functions + 2) (a .patterns)) in
+    length-answers fs ps ∙ ap (λ (n : ℕ). n * length ps) (length-numbersAt b 2 (a .functions))
+    ∙ ap (λ (n : ℕ). a .functions * n) (length-numbersAt b (2 + 2 * a .functions + 2) (a .patterns)) in
     let copied = c .before .before .before .before .before .before .before .before .before .before .copy in
     let counted = c .before .before .before .before .before .before .put-number in
     let rows = c .before .before .write-answers in

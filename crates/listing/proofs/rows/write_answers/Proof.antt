@@ -50,7 +50,8 @@ module _ (c : tie.In-loop Inv-loop μ-loop) where
 write-row-requires : tie.Need-write-row-requires Inv-loop μ-loop
 write-row-requires c κs =
     let a = c .before .before .before .before .before .before .args in
-    let k = known-at (now (a .input)) 2 (a .functions) (c .before .before .before .loop .i) (omega arith) (c .before .before .before .before .before .before .pre .1 .0) in
+    let k = known-at (now (a .input)) 2 (a .functions) (c .before .before .before .loop .i)
+    (omega arith) (c .before .before .before .before .before .before .pre .1 .0) in
     (cc, (omega arith, omega (arith, within (c .before .before))))
 
 mul-at : tie.Need-mul-at Inv-loop μ-loop
@@ -73,7 +74,10 @@ loop-again c =
       omega arith,
       omega (arith, next-row (l .i) (a .patterns)),
       search needs,
-      cc (answers-next (now (a .output)) (a .to) (now (a .input)) (l .i) (numbersAt (now (a .input)) from (a .patterns)), length-numbersAt (now (a .input)) from (a .patterns)),
+      cc (
+        answers-next (now (a .output)) (a .to) (now (a .input)) (l .i) (numbersAt (now (a .input)) from (a .patterns)),
+        length-numbersAt (now (a .input)) from (a .patterns),
+      ),
     )
 
 same-length : tie.Need-same-length Inv-loop μ-loop

@@ -1,6 +1,6 @@
 -- `p16e1::functions::answer` meets its contract: each number's arm is its row, and no other number is known.
 use borrow.Author.Needs.{needs}
-use Prim.Native.Nat.{ℕ, suc, _≤_, _<_}
+use Prim.Native.Nat.{ℕ, _+_, _≤_, _<_}
 use mathlib.Core.Path.{_≡_, refl}
 use mathlib.Core.Bool.{false}
 use native.Mathlib.Decide.{decLt}
@@ -80,8 +80,8 @@ returns-10 : tie.Need-returns-10
 unfolding rowOf
 returns-10 c = rw (c .before .match .keys10) (refl, c .acos-pi .ensures)
 
-past : (k f : ℕ) → k ≤ f → (f ≡ k → ⊥) → suc k ≤ f
-past k f l e = omega arith
+past-five : (k f : ℕ) → k ≤ f → (f ≡ k → ⊥) → (f ≡ k + 1 → ⊥) → (f ≡ k + 2 → ⊥) → (f ≡ k + 3 → ⊥) → (f ≡ k + 4 → ⊥) → k + 5 ≤ f
+past-five k f l n₀ n₁ n₂ n₃ n₄ = omega arith
 
 outside : (f : ℕ) → Dec (f < 1) → (1 ≤ f → 10 < f) → known f ≡ false
 outside f (yes h) out = unknown-below f h
@@ -91,7 +91,33 @@ returns-11 : tie.Need-returns-11
 returns-11 c =
     let f = c .before .args .function in
     let r = c .match .rest in
-    outside f (decLt f 1) (λ l. past 10 f (past 9 f (past 8 f (past 7 f (past 6 f (past 5 f (past 4 f (past 3 f (past 2 f (past 1 f l (r .0 .0 .0 .0 .0 .0 .0 .0 .0 .1)) (r .0 .0 .0 .0 .0 .0 .0 .0 .1)) (r .0 .0 .0 .0 .0 .0 .0 .1)) (r .0 .0 .0 .0 .0 .0 .1)) (r .0 .0 .0 .0 .0 .1)) (r .0 .0 .0 .0 .1)) (r .0 .0 .0 .1)) (r .0 .0 .1)) (r .0 .1)) (r .1))
+    let low = r .0 .0 .0 .0 .0 in
+    outside f (decLt f 1)
+    (λ l. past-five 6 f (past-five 1 f l (low .0 .0 .0 .0 .1) (low .0 .0 .0 .1) (low .0 .0 .1) (low .0 .1) (low .1))
+    (r .0 .0 .0 .0 .1) (r .0 .0 .0 .1) (r .0 .0 .1) (r .0 .1) (r .1))
 
 pub answer-spec : {M : Type 1} → statement M
-answer-spec = tie.close (tie.spec exp-requires exp2-requires ln-requires log2-requires sin-pi-requires cos-pi-requires tan-pi-requires atan-pi-requires asin-pi-requires acos-pi-requires returns returns-2 returns-3 returns-4 returns-5 returns-6 returns-7 returns-8 returns-9 returns-10 returns-11)
+answer-spec =
+    tie.close
+    (tie.spec
+    exp-requires
+    exp2-requires
+    ln-requires
+    log2-requires
+    sin-pi-requires
+    cos-pi-requires
+    tan-pi-requires
+    atan-pi-requires
+    asin-pi-requires
+    acos-pi-requires
+    returns
+    returns-2
+    returns-3
+    returns-4
+    returns-5
+    returns-6
+    returns-7
+    returns-8
+    returns-9
+    returns-10
+    returns-11)

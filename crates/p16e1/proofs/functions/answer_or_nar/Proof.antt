@@ -19,7 +19,8 @@ enum-told c = search needs
 returns : tie.Need-returns
 returns c =
     let d = c .before .before in
-    let h : known (d .before .args .function) ≡ false = subst (Answers (d .before .args .function) (d .before .args .p)) (c .enum-told .given .1) (d .answer .ensures) in
+    let h : known (d .before .args .function) ≡ false =
+    subst (Answers (d .before .args .function) (d .before .args .p)) (c .enum-told .given .1) (d .answer .ensures) in
     rw h refl
 
 returns-2 : tie.Need-returns-2

@@ -44,7 +44,8 @@ loop-again c =
     (rw e (one-passed 0 p bits r h (r - 2) (omega arith) (omega arith) (omega arith)), omega arith)
 
 returns : tie.Need-returns Inv-loop μ-loop
-returns c = all-passed 0 (c .before .before .args .p) (c .before .loop .bits) (c .before .loop .regime) (c .before .loop .inv .0) (omega arith) (λ e. omega arith)
+returns c =
+    all-passed 0 (c .before .before .args .p) (c .before .loop .bits) (c .before .loop .regime) (c .before .loop .inv .0) (omega arith) (λ e. omega arith)
 
 pub past-zeros-spec : {M : Type 1} → statement M
 past-zeros-spec = tie.close (tie.spec Inv-loop μ-loop loop-holds sub-regime loop-less loop-again returns)

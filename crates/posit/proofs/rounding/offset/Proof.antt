@@ -63,12 +63,21 @@ module _ (c : lts.Else2 reads.Pre reads.Post) where
   powers = subst (λ (x : ℤ). up x * 2 ^ 200 ≡ 2 ^ (here .k) * down x) (toZ-ofZ (c .before .before .fits .e)) (here .same)
 
 returns : tie.Need-returns
-returns c =
-    (λ l. subst (λ (x : ℤ). up x * 2 ^ 200 ≤ 2 ^ 0 * down x) (toZ-ofZ (c .before .fits .e)) (far-below (toZ w32 (ofZ w32 (c .before .args .e))) (c .if1 .taken)), (λ l. absurd (omega arith), omega arith))
+returns c = (
+  λ l. subst (λ (x : ℤ). up x * 2 ^ 200 ≤ 2 ^ 0 * down x) (toZ-ofZ (c .before .fits .e))
+      (far-below (toZ w32 (ofZ w32 (c .before .args .e))) (c .if1 .taken)),
+  (λ l. absurd (omega arith), omega arith),
+)
 
 returns-2 : tie.Need-returns-2
-returns-2 c =
-    (λ l. absurd (omega arith), (λ l. subst (λ (x : ℤ). 2 ^ 400 * down x ≤ up x * 2 ^ 200) (toZ-ofZ (c .before .before .fits .e)) (far-above (toZ w32 (ofZ w32 (c .before .before .args .e))) (c .if2 .taken)), omega arith))
+returns-2 c = (
+  λ l. absurd (omega arith),
+  (
+    λ l. subst (λ (x : ℤ). 2 ^ 400 * down x ≤ up x * 2 ^ 200) (toZ-ofZ (c .before .before .fits .e))
+        (far-above (toZ w32 (ofZ w32 (c .before .before .args .e))) (c .if2 .taken)),
+    omega arith,
+  ),
+)
 
 add-result : tie.Need-add-result
 add-result c = subst⁻¹ (λ (x : ℤ). SFits w32 x) (here c .sum) (record { sfits = let k = here c .most in omega arith })
@@ -78,7 +87,9 @@ cast-result c = subst⁻¹ (λ (x : ℤ). T (nonNeg x) × Fits w32 (natAbs x)) (
 
 returns-3 : tie.Need-returns-3
 returns-3 c =
-    subst⁻¹ (λ (x : ℤ). (natAbs x < 400 → up (e c) * 2 ^ 200 ≤ 2 ^ natAbs x * down (e c)) × ((0 < natAbs x → 2 ^ natAbs x * down (e c) ≤ up (e c) * 2 ^ 200) × (natAbs x ≤ 400))) (read c)
+    subst⁻¹
+    (λ (x : ℤ). (natAbs x < 400 → up (e c) * 2 ^ 200 ≤ 2 ^ natAbs x * down (e c))
+    × ((0 < natAbs x → 2 ^ natAbs x * down (e c) ≤ up (e c) * 2 ^ 200) × (natAbs x ≤ 400))) (read c)
     (λ l. le-of-eq (powers c), (λ l. le-of-eq (sym (powers c)), here c .most))
 
 pub offset-spec : {M : Type 1} → statement M

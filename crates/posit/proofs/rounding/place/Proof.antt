@@ -19,13 +19,9 @@ use Rattle.posit.proofs.rounding.place.Statement.{statement}
 use Rattle.posit.proofs.rounding.place.Tie as tie
 
 -- p + 30, which is above zero, as it is read
-raised : (p : ℤ) → mag p ≤ 27 → p +ℤ pos 30 ≡ pos (natAbs (p +ℤ pos 30))
-raised (pos j) h = refl
-raised (negsuc j) h = rw (le-ltb 30 (suc j) (omega arith)) refl
-
-raised-few : (p : ℤ) → mag p ≤ 27 → natAbs (p +ℤ pos 30) ≤ 57
-raised-few (pos j) h = omega arith
-raised-few (negsuc j) h = rw (le-ltb 30 (suc j) (omega arith)) (omega arith)
+raised : (p : ℤ) → mag p ≤ 27 → (p +ℤ pos 30 ≡ pos (natAbs (p +ℤ pos 30))) × (natAbs (p +ℤ pos 30) ≤ 57)
+raised (pos j) h = (refl, omega arith)
+raised (negsuc j) h = rw (le-ltb 30 (suc j) (omega arith)) (refl, omega arith)
 
 -- an argument that is signed goes by its bits
 module _ (c : tie.After-run-after) where
@@ -51,10 +47,10 @@ module _ (c : tie.After-run-after) where
   few = let e = run-is in let h = c .before .pre .1 in omega arith
 
   sum-read : toZ w32 (ofZ w32 p) +ℤ pos 30 ≡ pos s
-  sum-read = ap (λ (z : ℤ). z +ℤ pos 30) p-read ∙ raised p (c .before .pre .1)
+  sum-read = ap (λ (z : ℤ). z +ℤ pos 30) p-read ∙ raised p (c .before .pre .1) .0
 
   sum-fits : SFits w32 (toZ w32 (ofZ w32 p) +ℤ pos 30)
-  sum-fits = subst⁻¹ (λ (z : ℤ). SFits w32 z) sum-read (record { sfits = let h = raised-few p (c .before .pre .1) in omega arith })
+  sum-fits = subst⁻¹ (λ (z : ℤ). SFits w32 z) sum-read (record { sfits = omega (arith, raised p (c .before .pre .1) .1) })
 
   power-read : toZ w32 (ofZ w32 (toZ w32 (ofZ w32 p) +ℤ pos 30)) ≡ pos s
   power-read = toZ-ofZ sum-fits ∙ sum-read
@@ -68,7 +64,14 @@ module _ (c : tie.After-run-after) where
   tail : k + (14 - k) ≡ 14
   tail = omega (arith, few)
 
-  most : wide f s (14 - k) b (omega arith) (omega arith) layout k tail < 65534 * 2 ^ 48
+  -- the pattern, and what is added to the layout's base for it, as it is computed
+  abbrev pattern : ℕ
+  pattern = wide f s (14 - k) b (omega arith) (omega arith) layout k tail
+
+  abbrev added : ℕ
+  added = ((f - 2 ^ 63) / 4 + natAbs (toZ w32 (ofZ w32 (toZ w32 (ofZ w32 p) +ℤ pos 30))) % 2 * 2 ^ 61) / 2 ^ k
+
+  most : pattern < 65534 * 2 ^ 48
   most = wide-most f s (14 - k) b (omega arith) (omega arith) layout k tail
 
 run-after-requires : tie.Need-run-after-requires
@@ -81,7 +84,7 @@ add-x : tie.Need-add-x
 add-x c = sum-fits c
 
 cast-x : tie.Need-cast-x
-cast-x c = subst⁻¹ (λ (z : ℤ). T (nonNeg z) × Fits w32 (natAbs z)) (power-read c) (tt, fits-of-lt (let h = raised-few (p c) (c .before .pre .1) in omega arith))
+cast-x c = subst⁻¹ (λ (z : ℤ). T (nonNeg z) × Fits w32 (natAbs z)) (power-read c) (tt, fits-of-lt (omega (arith, raised (p c) (c .before .pre .1) .1)))
 
 cast-x-2 : tie.Need-cast-x-2
 cast-x-2 c = search needs
@@ -101,11 +104,11 @@ cast-v c = search needs
 shr-v : tie.Need-shr-v
 shr-v c = omega (arith, few (c .before))
 
--- the pattern, as it is computed
-wide-read : (c : tie.After-base-of) → c .base-of .result + ((f (c .before) - 2 ^ 63) / 4 + natAbs (toZ w32 (ofZ w32 (toZ w32 (ofZ w32 (p (c .before))) +ℤ pos 30))) % 2 * 2 ^ 61) / 2 ^ k (c .before) ≡ wide (f (c .before)) (s (c .before)) (14 - k (c .before)) (b (c .before)) (omega arith) (omega arith) (layout (c .before)) (k (c .before)) (tail (c .before))
+wide-read : (c : tie.After-base-of) → c .base-of .result + added (c .before) ≡ pattern (c .before)
 wide-read c =
     let a = c .before in
-    (λ i. (c .base-of .ensures ∙ ap (λ (z : ℤ). cond (ltZ z (pos 0)) (2 ^ (14 - k a)) (2 ^ 16 - 2 ^ (15 - k a)) * 2 ^ 48) (p-read a)) i + ((f a - 2 ^ 63) / 4 + natAbs (power-read a i) % 2 * 2 ^ 61) / 2 ^ k a)
+    let base = c .base-of .ensures ∙ ap (λ (z : ℤ). cond (ltZ z (pos 0)) (2 ^ (14 - k a)) (2 ^ 16 - 2 ^ (15 - k a)) * 2 ^ 48) (p-read a) in
+    λ i. base i + ((f a - 2 ^ 63) / 4 + natAbs (power-read a i) % 2 * 2 ^ 61) / 2 ^ k a
 
 add-v : tie.Need-add-v
 add-v c = fits-of-lt (let e = wide-read c in let m = most (c .before) in omega arith)
@@ -129,8 +132,12 @@ returns c =
     let a = w .before in
     let said = a .before .pre .2 in
     ⊎-elim
-    (λ d. rw (d .1, wide-read w) (gathered (f a) (s a) (14 - k a) (b a) (omega arith) (omega arith) (layout a) (k a) (tail a) (ltb-true 0 (f a % 2 ^ 15) (sym said ∙ d .0 .taken))))
-    (λ d. rw (d .1, wide-read w) (clear (f a) (s a) (14 - k a) (b a) (omega arith) (omega arith) (layout a) (k a) (tail a) (let z = ltb-false 0 (f a % 2 ^ 15) (sym said ∙ d .0 .left) in omega arith)))
+    (λ d. rw (d .1, wide-read w)
+    (gathered (f a) (s a) (14 - k a) (b a) (omega arith) (omega arith) (layout a) (k a) (tail a)
+    (ltb-true 0 (f a % 2 ^ 15) (sym said ∙ d .0 .taken))))
+    (λ d. rw (d .1, wide-read w)
+    (clear (f a) (s a) (14 - k a) (b a) (omega arith) (omega arith) (layout a) (k a) (tail a)
+    (let z = ltb-false 0 (f a % 2 ^ 15) (sym said ∙ d .0 .left) in omega arith)))
     (c .before .if1 .came)
 
 pub place-spec : {M : Type 1} → statement M

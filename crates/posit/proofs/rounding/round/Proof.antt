@@ -16,13 +16,8 @@ use Rattle.posit.proofs.Tops.{Top, top, short-below}
 use Rattle.posit.proofs.Far.{Offset, tiny, huge, middle}
 use Rattle.posit.proofs.rounding.round.Statement.{statement}
 use Rattle.posit.proofs.rounding.round.Tie as tie
-use Rattle.posit.proofs.rounding.round.Reads as reads
-use Rattle.posit.proofs.rounding.round.Lts as lts
-use Rattle.posit.proofs.rounding.below.Reads as below-reads
-use Rattle.posit.proofs.rounding.offset.Reads as offset-reads
-use Rattle.posit.proofs.rounding.place.Reads as place-reads
 
-module _ (c : lts.After-offset (offset-reads.Asked, offset-reads.Learnt, below-reads.Asked, below-reads.Learnt, place-reads.Asked, place-reads.Learnt) reads.Pre reads.Post) where
+module _ (c : tie.After-offset) where
   abbrev m : ℕ
   m = c .before .before .args .m
 
@@ -43,7 +38,8 @@ module _ (c : lts.After-offset (offset-reads.Asked, offset-reads.Learnt, below-r
 
   -- an argument that is signed goes by its bits
   offset : Offset e k
-  offset = subst (λ (x : ℤ). Offset x k) (toZ-ofZ (c .before .before .fits .e)) (record { at-most = c .offset .ensures .0; at-least = c .offset .ensures .1 .0 })
+  offset =
+      subst (λ (x : ℤ). Offset x k) (toZ-ofZ (c .before .before .fits .e)) (record { at-most = c .offset .ensures .0; at-least = c .offset .ensures .1 .0 })
 
   k-small : k < 2 ^ 30
   k-small = let h = c .offset .ensures .1 .1 in omega arith
@@ -61,7 +57,9 @@ module _ (c : lts.After-offset (offset-reads.Asked, offset-reads.Learnt, below-r
   second-read = λ i. (toZ-ofZ first-fit ∙ ap (λ (x : ℤ). x -ℤ pos 137) k-read) i -ℤ toZ-pos w32 {n = z} (omega (arith, z-small)) i
 
   second-fit : SFits w32 (toZ w32 (ofZ w32 (toZ w32 k -ℤ pos 137)) -ℤ toZ w32 z)
-  second-fit = subst⁻¹ (λ (x : ℤ). SFits w32 x) second-read (record { sfits = apart-fits k (137 + z) (pos k -ℤ pos 137 -ℤ pos z) (apart k z) k-small (omega (arith, tops .few)) })
+  second-fit =
+      subst⁻¹ (λ (x : ℤ). SFits w32 x) second-read
+      (record { sfits = apart-fits k (137 + z) (pos k -ℤ pos 137 -ℤ pos z) (apart k z) k-small (omega (arith, tops .few)) })
 
   abbrev p : ℤ
   p = toZ w32 (ofZ w32 (toZ w32 (ofZ w32 (toZ w32 k -ℤ pos 137)) -ℤ toZ w32 z))
@@ -108,8 +106,11 @@ to c = let w = c .before .before in let h = to-huge (k w) (137 + z w) (p w) (cou
 place-requires : tie.Need-place-requires
 place-requires c κs =
     let r = c .before in
-    let w = r .before .before in
-    (rw (mod-eq-of-lt (tops w .below)) (tops w .from), power-few (k w) (137 + z w) (p w) (counted w) (omega (arith, from r)) (omega (arith, to r)), c .below .ensures)
+    let w = r .before .before in (
+      rw (mod-eq-of-lt (tops w .below)) (tops w .from),
+      power-few (k w) (137 + z w) (p w) (counted w) (omega (arith, from r)) (omega (arith, to r)),
+      c .below .ensures,
+    )
 
 returns-2 : tie.Need-returns-2
 returns-2 c =
@@ -119,7 +120,8 @@ returns-2 c =
     let g = to r in
     middle (m w) (z w) (k w) (e w) (some w) (offset w) (k w - 107 - z w) (c .place .result) (omega (arith, tops w .few)) (omega (arith, tops w .few))
     (subst (λ (x : ℕ). Rounded 1 16 (ratio (x * 2 ^ (k w - 107 - z w)) (2 ^ 93)) (c .place .result)) (mod-eq-of-lt (tops w .below))
-    (subst (λ (x : ℕ). Rounded 1 16 (ratio (m w * 2 ^ z w % 2 ^ 64 * 2 ^ x) (2 ^ 93)) (c .place .result)) (raised (k w) (137 + z w) (p w) (counted w) (omega arith) ∙ (let d : k w + 30 - (137 + z w) ≡ k w - 107 - z w = omega arith in d)) (c .place .ensures)))
+    (subst (λ (x : ℕ). Rounded 1 16 (ratio (m w * 2 ^ z w % 2 ^ 64 * 2 ^ x) (2 ^ 93)) (c .place .result))
+    (raised (k w) (137 + z w) (p w) (counted w) (omega arith) ∙ (let d : k w + 30 - (137 + z w) ≡ k w - 107 - z w = omega arith in d)) (c .place .ensures)))
 
 -- past the range, one of the two tests failed
 outside : (c : tie.Joined2) → (k (c .before) < 109 + z (c .before)) ⊎ (165 + z (c .before) ≤ k (c .before))

@@ -49,7 +49,8 @@ sub-result c = subst⁻¹ (λ (z : ℤ). SFits w32 z) (low-read c) (record { sfi
 
 cast-result : tie.Need-cast-result
 cast-result c =
-    subst⁻¹ (λ (z : ℤ). T (nonNeg z) × Fits w32 (natAbs z)) (toZ-ofZ (sub-result c) ∙ low-read c) (tt, fits-of-lt (let h = c .before .fits .p .sfits in omega arith))
+    subst⁻¹ (λ (z : ℤ). T (nonNeg z) × Fits w32 (natAbs z)) (toZ-ofZ (sub-result c) ∙ low-read c)
+    (tt, fits-of-lt (let h = c .before .fits .p .sfits in omega arith))
 
 cast-result-2 : tie.Need-cast-result-2
 cast-result-2 c = subst⁻¹ (λ (z : ℤ). T (nonNeg z) × Fits w32 (natAbs z)) (high-read c) (tt, fits-of-lt (let h = c .before .fits .p .sfits in omega arith))

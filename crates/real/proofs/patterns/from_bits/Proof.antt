@@ -63,4 +63,5 @@ returns-3 c =
     (toZ-ofZ (less-fits f some most) ∙ less f most) (c .before .round2 .ensures)))
 
 pub from-bits-spec : {M : Type 1} → statement M
-from-bits-spec = tie.close (tie.spec returns round-requires signed-requires returns-2 add-round cast-round sub-round round-requires-2 signed-requires-2 returns-3)
+from-bits-spec =
+    tie.close (tie.spec returns round-requires signed-requires returns-2 add-round cast-round sub-round round-requires-2 signed-requires-2 returns-3)

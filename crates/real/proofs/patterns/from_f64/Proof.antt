@@ -28,7 +28,8 @@ returns c = subst⁻¹ (λ (x : Float). FromF64 x 0x8000) (differs-from-itself (
 returns-2 : tie.Need-returns-2
 returns-2 c =
     let x = c .before .before .args .x in
-    subst (λ (y : Float). FromF64 y (c .from-bits .result)) (ofBits-toBits binary64 x (subst T (sym (c .before .before .good .0 .1)) tt)) (c .from-bits .ensures)
+    subst (λ (y : Float). FromF64 y (c .from-bits .result))
+    (ofBits-toBits binary64 x (subst T (sym (c .before .before .good .0 .1)) tt)) (c .from-bits .ensures)
 
 pub from-f64-spec : {M : Type 1} → statement M
 from-f64-spec = tie.close (tie.spec float-to-bits-from-bits from-bits-requires returns returns-2)

@@ -18,7 +18,8 @@ magnitude-of-requires : tie.Need-magnitude-of-requires
 magnitude-of-requires c κs = search needs
 
 returns : tie.Need-returns
-returns c = holds-plus 17 30 (c .before .before .args .v) (c .magnitude-of .result) (c .before .before .pre .0) (c .before .if1 .taken) (c .magnitude-of .ensures)
+returns c =
+    holds-plus 17 30 (c .before .before .args .v) (c .magnitude-of .result) (c .before .before .pre .0) (c .before .if1 .taken) (c .magnitude-of .ensures)
 
 sub-magnitude-of : tie.Need-sub-magnitude-of
 sub-magnitude-of c = search needs

@@ -23,7 +23,9 @@ round-requires : tie.Need-round-requires
 round-requires c κs = search needs
 
 returns-4 : tie.Need-returns-4
-returns-4 c = by-arc (c .before .before .before .before .before .args .p) (c .round .result) (omega arith) (omega arith) (λ h. ⊎-elim (λ w. omega arith) (λ w. omega arith) (c .before .before .before .before .if1 .came)) (rw (c .before .angle .ensures) at (c .round .ensures))
+returns-4 c =
+    by-arc (c .before .before .before .before .before .args .p) (c .round .result) (omega arith) (omega arith)
+    (λ h. ⊎-elim (λ w. omega arith) (λ w. omega arith) (c .before .before .before .before .if1 .came)) (rw (c .before .angle .ensures) at (c .round .ensures))
 
 pub acos-pi-spec : {M : Type 1} → statement M
 acos-pi-spec =

@@ -1,56 +1,56 @@
--- `arc::math::acos_pi::acos_poly` meets its contract: each product fits, by the bounds of Arcs.antt.
-use Prim.Native.Nat.{ℕ, _+_, _*_, _/_, _^_, _≤_}
+-- `arc::math::acos_pi::acos_poly` meets its contract: each product fits, by bounds on the factors.
+use Prim.Native.Nat.{ℕ, _^_, _≤_}
 use mathlib.Core.Path.{refl}
+use mathlib.Core.List.{List, [], _∷_}
 use native.Mathlib.Omega.{arith}
-use lib.Dec.{lit≤}
 use mir.Facts.{fits-of-lt}
 use Rattle.arc.specs.AcosPi.{poly}
-use Rattle.arc.proofs.Arcs.{Steps, steps}
+use Rattle.rows.proofs.Horner.{Step, plus, SquareProducts, square-products}
 use Rattle.arc.proofs.math.acos_pi.acos_poly.Statement.{statement}
 use Rattle.arc.proofs.math.acos_pi.acos_poly.Tie as tie
 
-abbrev sum-a : ℕ → ℕ
-sum-a f = 13696 + f * f / 2 ^ 28 * 7955 / 2 ^ 27
+abbrev steps : List Step
+steps = plus 27 13696 ∷ plus 26 100510 ∷ plus 25 1780047 ∷ plus 26 42722829 ∷ []
 
-bounds : (f : ℕ) → f ≤ 2 ^ 27 → Steps f (sum-a f) 100510 1780047 42722829
-bounds f h = steps f (sum-a f) 100510 1780047 42722829 h (λ s. omega arith) (lit≤ tt) (lit≤ tt) (lit≤ tt)
+bounds : {f : ℕ} → f ≤ 2 ^ 27 → SquareProducts 28 (2 ^ 27) f 7955 steps
+bounds h = square-products 28 (2 ^ 27) 7955 steps h
 
 mul-fsq : tie.Need-mul-fsq
-mul-fsq c = fits-of-lt (let k = bounds (c .args .f) (c .pre) in omega arith)
+mul-fsq c = fits-of-lt (let k = bounds (c .pre) in omega arith)
 
 mul-a : tie.Need-mul-a
-mul-a c = fits-of-lt (let k = bounds (c .args .f) (c .pre) in omega arith)
+mul-a c = fits-of-lt (let k = bounds (c .pre) in omega arith)
 
 add-a : tie.Need-add-a
-add-a c = fits-of-lt (let k = bounds (c .args .f) (c .pre) in omega arith)
+add-a c = fits-of-lt (let k = bounds (c .pre) in omega arith)
 
 mul-b : tie.Need-mul-b
-mul-b c = fits-of-lt (let k = bounds (c .args .f) (c .pre) in omega arith)
+mul-b c = fits-of-lt (let k = bounds (c .pre) in omega arith)
 
 add-b : tie.Need-add-b
-add-b c = fits-of-lt (let k = bounds (c .args .f) (c .pre) in omega arith)
+add-b c = fits-of-lt (let k = bounds (c .pre) in omega arith)
 
 mul-c : tie.Need-mul-c
-mul-c c = fits-of-lt (let k = bounds (c .args .f) (c .pre) in omega arith)
+mul-c c = fits-of-lt (let k = bounds (c .pre) in omega arith)
 
 add-c : tie.Need-add-c
-add-c c = fits-of-lt (let k = bounds (c .args .f) (c .pre) in omega arith)
+add-c c = fits-of-lt (let k = bounds (c .pre) in omega arith)
 
 mul-d : tie.Need-mul-d
-mul-d c = fits-of-lt (let k = bounds (c .args .f) (c .pre) in omega arith)
+mul-d c = fits-of-lt (let k = bounds (c .pre) in omega arith)
 
 add-d : tie.Need-add-d
-add-d c = fits-of-lt (let k = bounds (c .args .f) (c .pre) in omega arith)
+add-d c = fits-of-lt (let k = bounds (c .pre) in omega arith)
 
 mul-result : tie.Need-mul-result
-mul-result c = fits-of-lt (let k = bounds (c .args .f) (c .pre) in omega arith)
+mul-result c = fits-of-lt (let k = bounds (c .pre) in omega arith)
 
 sub-result : tie.Need-sub-result
-sub-result c = let k = bounds (c .args .f) (c .pre) in omega arith
+sub-result c = let k = bounds (c .pre) in omega arith
 
 returns : tie.Need-returns
 unfolding poly
-returns c = (refl, let k = bounds (c .args .f) (c .pre) in omega arith)
+returns c = (refl, let k = bounds (c .pre) in omega arith)
 
 pub acos-poly-spec : {M : Type 1} → statement M
 acos-poly-spec = tie.close (tie.spec mul-fsq mul-a add-a mul-b add-b mul-c add-c mul-d add-d mul-result sub-result returns)

@@ -28,9 +28,17 @@ far p l h out =
     at-least (yes k) = let e = size-minus p k in omega arith
     at-least (no k) = let e = size-plus p (omega arith) in omega arith
 
-root-beyond : (p : ℕ) {s x r : ℕ} → 0x3000 ≤ p → p ≤ 53248 → (0x4000 < p → 0xC000 ≤ p) → s ≡ size 16 p → x ≡ magnitude 1 16 s → Root ((2 ^ 28 - x) * 2 ^ 27 % 2 ^ 64) r
-    → (r ≡ root ((2 ^ 28 - magnitude 1 16 (size 16 p)) * 2 ^ 27)) × (r ≤ 2 ^ 27)
-root-beyond p l h out es ex a = root-of-rest (ex ∙ ap (magnitude 1 16) es) (far p l h out .0) a
+-- the number's size is known by its pattern
+module _ (u : tie.After-units) where
+  abbrev p : ℕ
+  p = u .before .before .args .p
+
+  size-is : u .units .result ≡ magnitude 1 16 (size 16 p)
+  size-is = u .units .ensures ∙ ap (magnitude 1 16) (u .before .signed .ensures)
+
+  root-beyond : {r : ℕ} → 0x3000 ≤ p → p ≤ 53248 → Root ((2 ^ 28 - u .units .result) * 2 ^ 27 % 2 ^ 64) r
+      → (r ≡ root ((2 ^ 28 - magnitude 1 16 (size 16 p)) * 2 ^ 27)) × (r ≤ 2 ^ 27)
+  root-beyond l h a = root-of-rest size-is (far p l h (u .before .before .pre .2) .0) a
 
 signed-requires : tie.Need-signed-requires
 signed-requires c κs = search needs
@@ -39,27 +47,23 @@ units-requires : tie.Need-units-requires
 units-requires c κs = search needs
 
 acos-poly-requires : tie.Need-acos-poly-requires
-acos-poly-requires c κs =
-    let u = c .before in
-    rw (u .units .ensures, u .before .signed .ensures) (near (u .before .before .args .p) (omega arith) (omega arith) (λ k. omega arith))
+acos-poly-requires c κs = rw (size-is (c .before)) (near (p (c .before)) (omega arith) (omega arith) (λ k. omega arith))
 
 returns : tie.Need-returns
 returns c =
     let u = c .before .before in
-    rw (c .acos-poly .ensures .0, u .units .ensures, u .before .signed .ensures, arc-below-half (u .before .before .args .p) _ (omega arith))
+    rw (c .acos-poly .ensures .0, size-is u, arc-below-half (p u) _ (omega arith))
 
 sub-isqrt : tie.Need-sub-isqrt
 sub-isqrt c =
     let u = c .before .before in
-    rw (u .units .ensures, u .before .signed .ensures) (far (u .before .before .args .p) (omega arith) (omega arith) (u .before .before .pre .2) .1)
+    rw (size-is u) (far (p u) (omega arith) (omega arith) (u .before .before .pre .2) .1)
 
 isqrt-requires : tie.Need-isqrt-requires
 isqrt-requires c κs = search needs
 
 acos-poly-requires-2 : tie.Need-acos-poly-requires-2
-acos-poly-requires-2 c κs =
-    let u = c .before .before .before in
-    root-beyond (u .before .before .args .p) (omega arith) (omega arith) (u .before .before .pre .2) (u .before .signed .ensures) (u .units .ensures) (c .isqrt .ensures) .1
+acos-poly-requires-2 c κs = root-beyond (c .before .before .before) (omega arith) (omega arith) (c .isqrt .ensures) .1
 
 mul-result : tie.Need-mul-result
 mul-result c = search needs
@@ -70,13 +74,13 @@ sub-result c = search needs
 returns-2 : tie.Need-returns-2
 returns-2 c =
     let u = c .before .before .before .before in
-    let e = root-beyond (u .before .before .args .p) (omega arith) (omega arith) (u .before .before .pre .2) (u .before .signed .ensures) (u .units .ensures) (c .before .isqrt .ensures) .0 in
-    rw (c .acos-poly2 .ensures .0, e, arc-from-half (u .before .before .args .p) _ (omega arith) (omega arith))
+    let e = root-beyond u (omega arith) (omega arith) (c .before .isqrt .ensures) .0 in
+    rw (c .acos-poly2 .ensures .0, e, arc-from-half (p u) _ (omega arith) (omega arith))
 
 acos-poly-requires-3 : tie.Need-acos-poly-requires-3
 acos-poly-requires-3 c κs =
     let u = c .before .before .before in
-    rw (u .units .ensures, u .before .signed .ensures) (near (u .before .before .args .p) (omega arith) (omega arith) (λ k. omega arith))
+    rw (size-is u) (near (p u) (omega arith) (omega arith) (λ k. omega arith))
 
 sub-result-2 : tie.Need-sub-result-2
 sub-result-2 c = search needs
@@ -84,20 +88,18 @@ sub-result-2 c = search needs
 returns-3 : tie.Need-returns-3
 returns-3 c =
     let u = c .before .before .before .before in
-    rw (c .acos-poly3 .ensures .0, u .units .ensures, u .before .signed .ensures, arc-above-minus-half (u .before .before .args .p) _ (omega arith))
+    rw (c .acos-poly3 .ensures .0, size-is u, arc-above-minus-half (p u) _ (omega arith))
 
 sub-isqrt-2 : tie.Need-sub-isqrt-2
 sub-isqrt-2 c =
     let u = c .before .before .before in
-    rw (u .units .ensures, u .before .signed .ensures) (far (u .before .before .args .p) (omega arith) (omega arith) (u .before .before .pre .2) .1)
+    rw (size-is u) (far (p u) (omega arith) (omega arith) (u .before .before .pre .2) .1)
 
 isqrt-requires-2 : tie.Need-isqrt-requires-2
 isqrt-requires-2 c κs = search needs
 
 acos-poly-requires-4 : tie.Need-acos-poly-requires-4
-acos-poly-requires-4 c κs =
-    let u = c .before .before .before .before in
-    root-beyond (u .before .before .args .p) (omega arith) (omega arith) (u .before .before .pre .2) (u .before .signed .ensures) (u .units .ensures) (c .isqrt2 .ensures) .1
+acos-poly-requires-4 c κs = root-beyond (c .before .before .before .before) (omega arith) (omega arith) (c .isqrt2 .ensures) .1
 
 mul-result-2 : tie.Need-mul-result-2
 mul-result-2 c = search needs
@@ -105,8 +107,8 @@ mul-result-2 c = search needs
 returns-4 : tie.Need-returns-4
 returns-4 c =
     let u = c .before .before .before .before .before in
-    let e = root-beyond (u .before .before .args .p) (omega arith) (omega arith) (u .before .before .pre .2) (u .before .signed .ensures) (u .units .ensures) (c .before .isqrt2 .ensures) .0 in
-    rw (c .acos-poly4 .ensures .0, e, arc-to-minus-half (u .before .before .args .p) _ (omega arith) (omega arith))
+    let e = root-beyond u (omega arith) (omega arith) (c .before .isqrt2 .ensures) .0 in
+    rw (c .acos-poly4 .ensures .0, e, arc-to-minus-half (p u) _ (omega arith) (omega arith))
 
 pub angle-spec : {M : Type 1} → statement M
 angle-spec =

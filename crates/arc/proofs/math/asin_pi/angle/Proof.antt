@@ -14,7 +14,8 @@ asin-poly-requires : tie.Need-asin-poly-requires
 asin-poly-requires c κs = rw (c .before .units .ensures) (to-half (c .before .before .args .size) (omega arith) (omega arith))
 
 returns : tie.Need-returns
-returns c = (rw (c .asin-poly .ensures .0, c .before .before .units .ensures, arc-below-half (c .before .before .before .args .size) _ (omega arith)), omega arith)
+returns c =
+    (rw (c .asin-poly .ensures .0, c .before .before .units .ensures, arc-below-half (c .before .before .before .args .size) _ (omega arith)), omega arith)
 
 sub-isqrt : tie.Need-sub-isqrt
 sub-isqrt c = rw (c .before .units .ensures) (to-one (c .before .before .args .size) (omega arith) (omega arith))
@@ -23,7 +24,8 @@ isqrt-requires : tie.Need-isqrt-requires
 isqrt-requires c κs = search needs
 
 asin-poly-requires-2 : tie.Need-asin-poly-requires-2
-asin-poly-requires-2 c κs = root-of-rest (c .before .before .units .ensures) (from-half (c .before .before .before .args .size) (omega arith) (omega arith)) (c .isqrt .ensures) .1
+asin-poly-requires-2 c κs =
+    root-of-rest (c .before .before .units .ensures) (from-half (c .before .before .before .args .size) (omega arith) (omega arith)) (c .isqrt .ensures) .1
 
 mul-result : tie.Need-mul-result
 mul-result c = search needs

@@ -36,8 +36,12 @@ signed-requires-2 c κs = search needs
 returns-3 : tie.Need-returns-3
 returns-3 c =
     let p = c .before .before .before .before .before .before .args .p in
-    let e : c .before .before .angle .result % 2 ^ 30 ≡ arc (size 16 p) (magnitude 1 16 (size 16 p)) = mod-eq-of-lt (let l = c .before .before .angle .ensures .1 in omega arith) ∙ c .before .before .angle .ensures .0 ∙ ap (λ (u : ℕ). arc u (magnitude 1 16 u)) (c .before .before .before .before .signed .ensures) in
-    rw (c .signed2 .ensures) (by-arc p (c .before .round .result) (omega arith) (omega arith) (rw (c .before .before .before .before .signed .ensures) at (c .before .before .before .if2 .left)) (rw e at (c .before .round .ensures)))
+    let e : c .before .before .angle .result % 2 ^ 30 ≡ arc (size 16 p) (magnitude 1 16 (size 16 p)) =
+    mod-eq-of-lt (let l = c .before .before .angle .ensures .1 in omega arith) ∙ c .before .before .angle .ensures .0
+    ∙ ap (λ (u : ℕ). arc u (magnitude 1 16 u)) (c .before .before .before .before .signed .ensures) in
+    rw (c .signed2 .ensures)
+    (by-arc p (c .before .round .result) (omega arith) (omega arith)
+    (rw (c .before .before .before .before .signed .ensures) at (c .before .before .before .if2 .left)) (rw e at (c .before .round .ensures)))
 
 pub asin-pi-spec : {M : Type 1} → statement M
 asin-pi-spec = tie.close (tie.spec returns signed-requires returns-2 angle-requires round-requires signed-requires-2 returns-3)

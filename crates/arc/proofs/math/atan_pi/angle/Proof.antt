@@ -32,19 +32,30 @@ small-angle-requires : tie.Need-small-angle-requires
 small-angle-requires c κs = rw (c .before .units .ensures) (below-one (c .before .before .args .size) (omega arith) (omega arith))
 
 returns : tie.Need-returns
-returns c = (c .small-angle .ensures .0 ∙ ap small (c .before .before .units .ensures) ∙ sym (quotient-small (c .before .before .before .args .size) _ (omega arith)), c .small-angle .ensures .1)
+returns c = (
+  c .small-angle .ensures .0 ∙ ap small (c .before .before .units .ensures)
+      ∙ sym (quotient-small (c .before .before .before .args .size) _ (omega arith)),
+  c .small-angle .ensures .1,
+)
 
 atan-poly-requires : tie.Need-atan-poly-requires
 atan-poly-requires c κs = rw (c .before .before .units .ensures) (to-one (c .before .before .before .args .size) (omega arith) (omega arith))
 
 returns-2 : tie.Need-returns-2
-returns-2 c = (c .atan-poly .ensures .0 ∙ ap poly (c .before .before .before .units .ensures) ∙ sym (quotient-below-one (c .before .before .before .before .args .size) _ (omega arith) (omega arith)), c .atan-poly .ensures .1)
+returns-2 c = (
+  c .atan-poly .ensures .0 ∙ ap poly (c .before .before .before .units .ensures)
+      ∙ sym (quotient-below-one (c .before .before .before .before .args .size) _ (omega arith) (omega arith)),
+  c .atan-poly .ensures .1,
+)
 
 div-atan-poly : tie.Need-div-atan-poly
-div-atan-poly c = rw (c .before .before .before .units .ensures) (let l = from-one (c .before .before .before .before .args .size) (omega arith) (omega arith) in omega arith)
+div-atan-poly c =
+    rw (c .before .before .before .units .ensures) (let l = from-one (c .before .before .before .before .args .size) (omega arith) (omega arith) in omega arith)
 
 atan-poly-requires-2 : tie.Need-atan-poly-requires-2
-atan-poly-requires-2 c κs = rw (c .before .before .before .units .ensures) (div-le-of-le-mul _ (let l = from-one (c .before .before .before .before .args .size) (omega arith) (omega arith) in omega arith))
+atan-poly-requires-2 c κs =
+    rw (c .before .before .before .units .ensures)
+    (div-le-of-le-mul _ (let l = from-one (c .before .before .before .before .args .size) (omega arith) (omega arith) in omega arith))
 
 sub-result : tie.Need-sub-result
 sub-result c = search needs
@@ -57,10 +68,16 @@ returns-3 c = (
 )
 
 large-angle-requires : tie.Need-large-angle-requires
-large-angle-requires c κs = rw (c .before .before .before .units .ensures) (let l = far (c .before .before .before .before .args .size) (omega arith) (omega arith) in (omega arith, omega arith))
+large-angle-requires c κs =
+    rw (c .before .before .before .units .ensures)
+    (let l = far (c .before .before .before .before .args .size) (omega arith) (omega arith) in (omega arith, omega arith))
 
 returns-4 : tie.Need-returns-4
-returns-4 c = (c .large-angle .ensures .0 ∙ ap (λ (x : ℕ). large (x / 2 ^ 20)) (c .before .before .before .before .units .ensures) ∙ sym (quotient-large (c .before .before .before .before .before .args .size) _ (omega arith)), c .large-angle .ensures .1)
+returns-4 c = (
+  c .large-angle .ensures .0 ∙ ap (λ (x : ℕ). large (x / 2 ^ 20)) (c .before .before .before .before .units .ensures)
+      ∙ sym (quotient-large (c .before .before .before .before .before .args .size) _ (omega arith)),
+  c .large-angle .ensures .1,
+)
 
 pub angle-spec : {M : Type 1} → statement M
 angle-spec =

@@ -21,7 +21,8 @@ signed-requires : tie.Need-signed-requires
 signed-requires c κs = search needs
 
 angle-requires : tie.Need-angle-requires
-angle-requires c κs = rw (c .signed .ensures) (let s = proper (c .before .before .before .args .p) (omega arith) (omega arith) (omega arith) in (omega arith, omega arith))
+angle-requires c κs =
+    rw (c .signed .ensures) (let s = proper (c .before .before .before .args .p) (omega arith) (omega arith) (omega arith) in (omega arith, omega arith))
 
 round-requires : tie.Need-round-requires
 round-requires c κs = search needs
@@ -32,7 +33,9 @@ signed-requires-2 c κs = search needs
 returns-3 : tie.Need-returns-3
 returns-3 c =
     let p = c .before .before .before .before .before .before .args .p in
-    let e : c .before .before .angle .result % 2 ^ 30 ≡ quotient (size 16 p) (magnitude 1 16 (size 16 p)) = mod-eq-of-lt (let l = c .before .before .angle .ensures .1 in omega arith) ∙ c .before .before .angle .ensures .0 ∙ ap (λ (u : ℕ). quotient u (magnitude 1 16 u)) (c .before .before .before .signed .ensures) in
+    let e : c .before .before .angle .result % 2 ^ 30 ≡ quotient (size 16 p) (magnitude 1 16 (size 16 p)) =
+    mod-eq-of-lt (let l = c .before .before .angle .ensures .1 in omega arith) ∙ c .before .before .angle .ensures .0
+    ∙ ap (λ (u : ℕ). quotient u (magnitude 1 16 u)) (c .before .before .before .signed .ensures) in
     rw (c .signed2 .ensures) (by-quotient p (c .before .round .result) (omega arith) (omega arith) (omega arith) (rw e at (c .before .round .ensures)))
 
 pub atan-pi-spec : {M : Type 1} → statement M

@@ -32,7 +32,8 @@ record Products (fs : ℕ) : Type 0 where
 products : (fs : ℕ) → fs < 2 ^ 16 → Products fs
 products fs h =
     let squared : fs * fs ≤ 2 ^ 32 = product (2 ^ 16) (2 ^ 16) (omega arith) (omega arith) in
-    let a : 2 ^ 25 * (square fs * left-a fs) ≤ 2 ^ 24 * (2 ^ 25 * 349194 + 2 ^ 25 - 2 ^ 24 * 28875) = at-end 349194 28875 (2 ^ 25) (2 ^ 24) (lit< tt) (omega arith) (lit≤ tt) (lit≤ tt) in
+    let a : 2 ^ 25 * (square fs * left-a fs) ≤ 2 ^ 24 * (2 ^ 25 * 349194 + 2 ^ 25 - 2 ^ 24 * 28875) =
+    at-end 349194 28875 (2 ^ 25) (2 ^ 24) (lit< tt) (omega arith) (lit≤ tt) (lit≤ tt) in
     record {
       squared = squared;
       a = a;

@@ -31,7 +31,8 @@ returns-3 c =
     let s = c .before .before .before in
     let f = c .before .before .reflect in
     let m = c .before .cos-poly in
-    rest-some poly 25 0 0x4000 (s .before .args .q) (s .before .args .r) (s .if1 .left) (f .result) (m .result % 2 ^ 25) (c .round .result) (f .ensures .0) (mod-eq-of-lt (m .ensures .1) ∙ m .ensures .0) (c .round .ensures)
+    rest-some poly 25 0 0x4000 (s .before .args .q) (s .before .args .r) (s .if1 .left) (f .result) (m .result % 2 ^ 25)
+    (c .round .result) (f .ensures .0) (mod-eq-of-lt (m .ensures .1) ∙ m .ensures .0) (c .round .ensures)
 
 pub unsigned-cosine-spec : {M : Type 1} → statement M
 unsigned-cosine-spec = tie.close (tie.spec returns returns-2 reflect-requires cos-poly-requires round-requires returns-3)

@@ -28,7 +28,8 @@ returns-3 c =
     let s = c .before .before .before in
     let f = c .before .before .reflect in
     let m = c .before .sin-poly in
-    rest-some poly 28 0x4000 0 (s .before .args .q) (s .before .args .r) (s .if1 .left) (f .result) (m .result) (c .round .result) (f .ensures .0) (m .ensures) (c .round .ensures)
+    rest-some poly 28 0x4000 0 (s .before .args .q) (s .before .args .r) (s .if1 .left)
+    (f .result) (m .result) (c .round .result) (f .ensures .0) (m .ensures) (c .round .ensures)
 
 pub unsigned-sine-spec : {M : Type 1} → statement M
 unsigned-sine-spec = tie.close (tie.spec returns returns-2 reflect-requires sin-poly-requires round-requires returns-3)

@@ -41,7 +41,8 @@ returns-4 c =
     let x = c .before .before in
     let k = x .before .before in
     let s = k .before in
-    sign-back tangent-odd (s .before .before .args .p) (omega arith) (s .signed .result) (s .signed .ensures) (s .before .if1 .left) (k .if2 .left) (x .before .if3 .left)
+    sign-back tangent-odd (s .before .before .args .p) (omega arith) (s .signed .result)
+    (s .signed .ensures) (s .before .if1 .left) (k .if2 .left) (x .before .if3 .left)
     (x .units .result) (c .before .tangent .result) (c .signed2 .result) (x .units .ensures) (c .before .tangent .ensures) (c .signed2 .ensures)
 
 pub tan-pi-spec : {M : Type 1} → statement M

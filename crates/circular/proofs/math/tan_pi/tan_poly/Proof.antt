@@ -25,7 +25,8 @@ div-result c = search needs
 
 returns-2 : tie.Need-returns-2
 unfolding poly
-returns-2 c = rw (le-ltb (c .before .before .before .args .f) 0xE001 (omega arith)) (λ i. c .before .tan-numerator .ensures i / c .tan-denominator .ensures .0 i)
+returns-2 c =
+    rw (le-ltb (c .before .before .before .args .f) 0xE001 (omega arith)) (λ i. c .before .tan-numerator .ensures i / c .tan-denominator .ensures .0 i)
 
 pub tan-poly-spec : {M : Type 1} → statement M
 tan-poly-spec = tie.close (tie.spec mul-result returns tan-numerator-requires tan-denominator-requires div-result returns-2)

@@ -1,21 +1,19 @@
 -- `exponential::math::exp2` meets its contract: near zero the answer is 1, past the ends it is that of `saturated`, and else the
 -- kernel's.
 use borrow.Author.Needs.{needs}
-use mathlib.Core.Path.{refl}
 use mathlib.Core.Logic.{inl, inr}
 use native.Mathlib.Omega.{arith}
-use lib.Dec.{lit≤}
 use Rattle.exponential.specs.Exp2.{kernel}
-use Rattle.exponential.proofs.Rows.Ends.{near-one, past-ends, past-both, past-neither}
+use Rattle.exponential.proofs.Rows.Ends.{near-one, past-both, past-neither}
 use Rattle.exponential.proofs.Rows.Exp2.{ordered}
 use Rattle.exponential.proofs.math.exp2.exp2.Statement.{statement}
 use Rattle.exponential.proofs.math.exp2.exp2.Tie as tie
 
 returns : tie.Need-returns
-returns c = rw (near-one 221 65379 29377 36159 ordered kernel (c .before .args .p) (inl (c .if1 .taken)))
+returns c = rw (near-one ordered kernel (c .before .args .p) (inl (c .if1 .taken)))
 
 returns-2 : tie.Need-returns-2
-returns-2 c = rw (near-one 221 65379 29377 36159 ordered kernel (c .before .before .args .p) (inr (c .if2 .taken)))
+returns-2 c = rw (near-one ordered kernel (c .before .before .args .p) (inr (c .if2 .taken)))
 
 signed-requires : tie.Need-signed-requires
 signed-requires c κs = search needs
@@ -25,12 +23,15 @@ saturated-requires c κs = search needs
 
 returns-3 : tie.Need-returns-3
 returns-3 c =
-    let p = c .before .before .before .before .before .args .p in
-    let h = past-both 29377 36159 p (c .before .before .signed .result) refl (omega arith) (omega arith) (c .before .before .signed .ensures) (lit≤ tt) (omega arith) in
-    rw (past-ends 221 65379 29377 36159 ordered kernel p (h .0) (h .1)) (c .saturated .ensures)
+    let s = c .before .before in
+    let p = s .before .before .before .args .p in
+    rw (past-both ordered p (s .signed .result) (omega arith) (omega arith) (s .signed .ensures) kernel (omega arith)) (c .saturated .ensures)
 
 kernel-requires : tie.Need-kernel-requires
-kernel-requires c κs = (search needs, search needs, λ h. past-neither 29377 36159 (c .before .before .before .before .args .p) (c .before .signed .result) refl (omega arith) (omega arith) (c .before .signed .ensures) (omega arith) h)
+kernel-requires c κs =
+    let s = c .before in
+    let p = s .before .before .before .args .p in
+    (search needs, search needs, past-neither ordered p (s .signed .result) (omega arith) (omega arith) (s .signed .ensures) (omega arith))
 
 returns-4 : tie.Need-returns-4
 returns-4 c = search needs

@@ -75,8 +75,10 @@ returns-3 c =
     let a = c .before .before .before .before in
     let l = a .before in
     let d = l .before .before .before in
-    let scale : s .scale ≡ cond (ltb (d .decode .result .power * 2 ^ 30 + l .ln-poly .result) (2 ^ 30 * 28)) 186065280 186065279 = ⊎-elim (λ w. rw (w .0 .taken) (w .1)) (λ w. rw (w .0 .left) (w .1)) (s .came) in
-    at-plus logarithmic (c .before .round .result) (omega arith) (omega arith) (d .decode .ensures) (l .ln-poly .ensures .0) (a .apart .ensures) (rw scale at (c .before .round .ensures)) (c .signed .ensures)
+    let scale : s .scale ≡ cond (ltb (d .decode .result .power * 2 ^ 30 + l .ln-poly .result) (2 ^ 30 * 28)) 186065280 186065279 =
+    ⊎-elim (λ w. rw (w .0 .taken) (w .1)) (λ w. rw (w .0 .left) (w .1)) (s .came) in
+    at-plus logarithmic (c .before .round .result) (omega arith) (omega arith) (d .decode .ensures)
+    (l .ln-poly .ensures .0) (a .apart .ensures) (rw scale at (c .before .round .ensures)) (c .signed .ensures)
 
 pub ln-spec : {M : Type 1} → statement M
 ln-spec =

@@ -1,61 +1,29 @@
 -- `logarithm::math::ln::ln_poly` meets its contract: each product fits, by bounds on the factors, and the bound on the
 -- result is computed at each fraction.
 use borrow.Author.Needs.{needs}
-use Prim.Native.Nat.{ℕ, _+_, _*_, _/_, _%_, _^_, _≤_, _<_}
-use mathlib.Core.Path.{_≡_, ap, subst⁻¹}
+use Prim.Native.Nat.{ℕ, _+_, _*_, _/_, _%_, _^_, _<_}
+use mathlib.Core.Path.{_≡_, refl}
+use mathlib.Core.List.{List, [], _∷_}
 use native.Mathlib.Omega.{arith}
 use native.Mathlib.Nat.{div-le-of-le-mul}
 use mir.Facts.{fits-of-lt}
 use lib.Dec.{lit≤}
 use lib.Pow.{shl-exact}
 use Rattle.logarithm.specs.Ln.{poly}
-use Rattle.rows.proofs.Products.{product}
+use Rattle.rows.proofs.Horner.{Step, plus, SquareProducts, square-products}
 use Rattle.logarithm.proofs.Sweeps.Logarithms.{ln-below}
 use Rattle.logarithm.proofs.math.ln.ln_poly.Statement.{statement}
 use Rattle.logarithm.proofs.math.ln.ln_poly.Tie as tie
 
-abbrev square : ℕ → ℕ
-square z = z * z / 2 ^ 30
-
--- the sums that the square and at last z are multiplied by, one after the other
-abbrev sum-b : ℕ → ℕ
-sum-b z = 26661 + square z * 1584 / 2 ^ 28
-
-abbrev sum-c : ℕ → ℕ
-sum-c z = 302676 + square z * sum-b z / 2 ^ 29
-
-abbrev sum-d : ℕ → ℕ
-sum-d z = 16136153 + square z * sum-c z / 2 ^ 27
-
-abbrev sum-e : ℕ → ℕ
-sum-e z = 193635259 + square z * sum-d z / 2 ^ 30
-
-record Products (z : ℕ) : Type 0 where
-  zsq : z * z ≤ 2 ^ 60
-  b : square z * sum-b z ≤ 2 ^ 46
-  c : square z * sum-c z ≤ 2 ^ 49
-  d : square z * sum-d z ≤ 2 ^ 55
-  last : z * sum-e z ≤ 2 ^ 58
-
-products : (z : ℕ) → z ≤ 2 ^ 30 → Products z
-products z h =
-    let zsq : z * z ≤ 2 ^ 60 = product (2 ^ 30) (2 ^ 30) h h in
-    let b : square z * sum-b z ≤ 2 ^ 46 = product (2 ^ 30) (2 ^ 16) (omega arith) (omega arith) in
-    let c : square z * sum-c z ≤ 2 ^ 49 = product (2 ^ 30) (2 ^ 19) (omega arith) (omega arith) in
-    let d : square z * sum-d z ≤ 2 ^ 55 = product (2 ^ 30) (2 ^ 25) (omega arith) (omega arith) in
-    let last : z * sum-e z ≤ 2 ^ 58 = product (2 ^ 30) (2 ^ 28) h (omega arith) in
-    record { zsq = zsq; b = b; c = c; d = d; last = last }
+abbrev steps : List Step
+steps = plus 28 26661 ∷ plus 29 302676 ∷ plus 27 16136153 ∷ plus 30 193635259 ∷ []
 
 module _ (f : ℕ) (h : f < 2 ^ 12) where
   shifted : (f * 2 ^ 31) % 2 ^ 64 ≡ f * 2 ^ 31
   shifted = shl-exact 12 31 64 h (lit≤ tt)
 
-  known : Products (((f * 2 ^ 31) % 2 ^ 64 + 2) / (f + 8192))
-  known = products (((f * 2 ^ 31) % 2 ^ 64 + 2) / (f + 8192)) (div-le-of-le-mul (f + 8192) (let e = shifted in omega arith))
-
-  result : ((f * 2 ^ 31) % 2 ^ 64 + 2) / (f + 8192) * sum-e (((f * 2 ^ 31) % 2 ^ 64 + 2) / (f + 8192)) / 2 ^ 27 ≡ poly f
-  unfolding poly
-  result = ap (λ (x : ℕ). (x + 2) / (f + 8192) * sum-e ((x + 2) / (f + 8192)) / 2 ^ 27) shifted
+  known : SquareProducts 30 (2 ^ 30) (((f * 2 ^ 31) % 2 ^ 64 + 2) / (f + 8192)) 1584 steps
+  known = square-products 30 (2 ^ 30) 1584 steps (div-le-of-le-mul (f + 8192) (let e = shifted in omega arith))
 
 add-z : tie.Need-add-z
 add-z c = search needs
@@ -97,7 +65,8 @@ mul-result : tie.Need-mul-result
 mul-result c = fits-of-lt (let k = known (c .args .f) (c .pre) in omega arith)
 
 returns : tie.Need-returns
-returns c = let e = result (c .args .f) (c .pre) in (e, subst⁻¹ (λ (r : ℕ). r < 2 ^ 30) e (ln-below (c .args .f) (c .pre)))
+unfolding poly
+returns c = rw (shifted (c .args .f) (c .pre)) (refl, ln-below (c .args .f) (c .pre))
 
 pub ln-poly-spec : {M : Type 1} → statement M
 ln-poly-spec =

@@ -62,7 +62,8 @@ returns-3 c =
     let l = c .before .before .before in
     let d = l .before .before .before in
     let w : d .decode .result .power % 64 ≡ d .decode .result .power = mod-eq-of-lt (let h = d .decode .ensures .few in omega arith) in
-    at-plus logarithmic (c .before .round .result) (omega arith) (omega arith) (rw w (d .decode .ensures)) (l .log2-poly .ensures .0) (c .before .before .apart .ensures) (c .before .round .ensures) (c .signed .ensures)
+    at-plus logarithmic (c .before .round .result) (omega arith) (omega arith) (rw w (d .decode .ensures))
+    (l .log2-poly .ensures .0) (c .before .before .apart .ensures) (c .before .round .ensures) (c .signed .ensures)
 
 pub log2-spec : {M : Type 1} → statement M
 log2-spec =

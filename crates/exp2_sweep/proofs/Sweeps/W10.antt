@@ -1,9 +1,0 @@
--- Part 10 of the patterns, by computation alone.
-use Rattle.posit.specs.Number.{magnitude, number, opposite, run}
-use Rattle.exponential.specs.Ends.{ends}
-use Rattle.exponential.specs.Exp2.{poly}
-use Rattle.exp2_sweep.proofs.Sweep.{Part, part}
-
-pub swept : Part 10
-unfolding magnitude number opposite run poly ends
-swept = part 10 tt
