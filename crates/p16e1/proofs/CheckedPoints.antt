@@ -1,4 +1,5 @@
--- The checked points of document 01 hold, and two more points of each function: each by computing the number, or the answer that `answered` shows to be the rule's.
+-- The checked points of document 01 hold, and two more points of each function: each by computing the number, or the answer that
+-- `answered` shows to be the rule's.
 use Prim.Native.Nat.{ℕ}
 use mathlib.Core.Path.{refl}
 use lib.Count.{leadingZeros}
