@@ -6,7 +6,7 @@ ghost use Rattle.p16e1.specs.Functions.{known, answerOf};
 ghost use Rattle.batch.specs.Batch.{batchedOf, outputOf};
 ghost use Rattle.listing.specs.Outcome.{listedOf};
 ghost use Rattle.listing.specs.Outcome as Listing;
-ghost use Rattle.batch.specs.Refusals.{numberOf};
+ghost use Rattle.refusals.specs.Refusals.{numberOf};
 
 // 0 and the function's answer, or 1, the refusal of an unknown function, with the place as it was.
 #[no_mangle]
@@ -41,7 +41,7 @@ pub extern "C" fn balehasp_batch(
     *next = b.next;
     *nars = b.nars;
     let refusal = b.refusal;
-    batch::number(refusal)
+    refusals::number(refusal)
 }
 
 // The listing's refusal. How many bytes were written is told in any case.
@@ -54,5 +54,5 @@ pub extern "C" fn balehasp_listing(input: &[u8], output: &mut [u8], written: &mu
     let l = listing::answer_listing(input, output);
     *written = l.written;
     let refusal = l.refusal;
-    batch::number(refusal)
+    refusals::number(refusal)
 }

@@ -10,7 +10,7 @@ use lib.ListN.{length, take, drop, getD, length-map}
 use lib.Seq.{paste, paste-zero, length-paste, take-add, take-all}
 use Rattle.p16e1.specs.Functions.{known, answerOf}
 use Rattle.batch.specs.Batch.{refusalOf, answers, narsIn, batchedOf, outputOf}
-use Rattle.batch.specs.declared.refusal.Refusal.the-variants.{None}
+use Rattle.refusals.specs.declared.Refusal.the-variants.{None}
 use Rattle.batch.proofs.Places.{nars-append}
 use Rattle.batch.proofs.Order.{not-refused}
 use Rattle.batch.proofs.Parts.{map-drop, paste-more-in-front}

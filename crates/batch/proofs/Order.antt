@@ -9,10 +9,11 @@ use lib.ListN.{length, take}
 use lib.Seq.{paste, paste-zero}
 use borrow.Author.Tests.{lt-ltb, le-ltb}
 use Rattle.p16e1.specs.Functions.{known}
-use Rattle.batch.specs.Batch.{refusalOf, placesAt, answers, narsIn, batchedOf, outputOf}
+use Rattle.batch.specs.Batch.{refusalOf, answers, narsIn, batchedOf, outputOf}
 use Rattle.batch.specs.declared.Batched.{Batched}
-use Rattle.batch.specs.declared.refusal.Refusal.{Refusal}
-use Rattle.batch.specs.declared.refusal.Refusal.the-variants.{None, Function, Output, Start}
+use Rattle.refusals.specs.declared.Refusal.{Refusal}
+use Rattle.refusals.specs.declared.Refusal.the-variants.{None, Function, Output, Start}
+use Rattle.refusals.specs.Refusals.{isNone}
 
 module _ (f inputs outputs start : ℕ) where
   pub unknown-function : known f ≡ false → refusalOf f inputs outputs start ≡ Function
@@ -33,7 +34,7 @@ module _ (f inputs outputs start : ℕ) where
 
 module _ (f : ℕ) (input output : List ℕ) (start limit : ℕ) where
   pub refused-does-nothing : (why : Refusal) (r : Batched)
-      → refusalOf f (length input) (length output) start ≡ why → placesAt why (length input) start limit ≡ 0
+      → refusalOf f (length input) (length output) start ≡ why → isNone why ≡ false
       → r ≡ record { next = start; nars = 0; refusal = why }
       → (r ≡ batchedOf f input (length output) start limit) × (output ≡ outputOf f input output start limit)
   refused-does-nothing why r e none h = (h ∙ simp (e, none, add-zero), simp (e, none) (paste-zero output start (answers f input start)))

@@ -9,25 +9,17 @@ use lib.Seq.{paste}
 use lib.Dec.{ltb, eqb}
 use Rattle.p16e1.specs.Functions.{known, answerOf}
 use Rattle.batch.specs.declared.Batched.{Batched}
-use Rattle.batch.specs.declared.refusal.Refusal.{Refusal}
-use Rattle.batch.specs.declared.refusal.Refusal.the-variants.{None, Function, Output, Start, Cut, Limits, After}
+use Rattle.refusals.specs.declared.Refusal.{Refusal}
+use Rattle.refusals.specs.declared.Refusal.the-variants.{None, Function, Output, Start}
+use Rattle.refusals.specs.Refusals.{isNone}
 
 -- "Batch order: 1, 2, 3"
 unfoldable pub refusalOf : ℕ → ℕ → ℕ → ℕ → Refusal
 refusalOf f inputs outputs start = cond (not (known f)) Function (cond (ltb outputs inputs) Output (cond (ltb inputs start) Start None))
 
 -- how many places are evaluated; "neither changes the output": none by a refused call
-abbrev pub placesAt : Refusal → ℕ → ℕ → ℕ → ℕ
-placesAt None inputs start limit = min (start + limit) inputs - start
-placesAt Function inputs start limit = 0
-placesAt Output inputs start limit = 0
-placesAt Start inputs start limit = 0
-placesAt Cut inputs start limit = 0
-placesAt Limits inputs start limit = 0
-placesAt After inputs start limit = 0
-
 abbrev pub places : ℕ → ℕ → ℕ → ℕ → ℕ → ℕ
-places f inputs outputs start limit = placesAt (refusalOf f inputs outputs start) inputs start limit
+places f inputs outputs start limit = cond (isNone (refusalOf f inputs outputs start)) (min (start + limit) inputs - start) 0
 
 -- the answers to the patterns from `start` on
 abbrev pub answers : ℕ → List ℕ → ℕ → List ℕ

@@ -1,12 +1,10 @@
-// Many patterns at once, a part at a time: the batch call, and the refusals by their numbers.
+// Many patterns at once, a part at a time: the batch call.
 mod fill;
-mod refusal;
 
 ghost use mathlib.Core.Path.{_≡_};
 ghost use lib.ListN.{length};
 ghost use Rattle.batch.specs.Batch.{batchedOf, outputOf};
-pub use refusal::Refusal;
-pub use refusal::number;
+use refusals::Refusal;
 
 // What a call did: the place to go on from, how many NaR it wrote, and why it was refused, if it was.
 pub struct Batched {

@@ -103,7 +103,7 @@ fn agrees(c: cases::Case, input: &[u16]) -> bool {
 
 fn same_result(got: batch::Batched, want: plain::Plain) -> bool {
     let why = got.refusal;
-    if batch::number(why) != want.refusal {
+    if refusals::number(why) != want.refusal {
         return false;
     }
     if got.next != want.next {

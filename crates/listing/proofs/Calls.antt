@@ -8,16 +8,18 @@ use borrow.Author.Tests.{lt-ltb, le-ltb, ltb-false}
 use lib.ListN.{length, drop}
 use lib.Seq.{sets, take-add, take-all}
 use lib.Dec.{ltb}
-use Rattle.batch.specs.declared.refusal.Refusal.{Refusal}
-use Rattle.batch.specs.declared.refusal.Refusal.the-variants.{None, Output, After}
-use Rattle.listing.specs.Numbers.{numberAt}
-use Rattle.listing.specs.Sections.{section, answers, listing, answered, answersAt, pastSection, functionsOf, patternsOf, pastPatterns}
-use Rattle.listing.specs.Order.{isNone, _before_, refusedWhen, sectionsRefusal, refusalOf}
-use Rattle.listing.specs.Outcome.{writes, listedOf, outputOf}
+use Rattle.refusals.specs.declared.Refusal.{Refusal}
+use Rattle.refusals.specs.declared.Refusal.the-variants.{None, Output, After}
+use Rattle.numbers.specs.Numbers.{numberAt}
+use Rattle.refusals.specs.Refusals.{isNone, _before_, refusedWhen}
+use Rattle.sections.specs.Sections.{section, pastSection, functionsOf, patternsOf, pastPatterns}
+use Rattle.sections.specs.Order.{sectionsRefusal}
+use Rattle.sections.proofs.Back.{Bytes, section-bytes}
+use Rattle.sections.proofs.Counts.{functions-are, patterns-are}
+use Rattle.sections.proofs.Sound.{Sound, sound, sound-of}
+use Rattle.listing.specs.Answered.{answers, listing, answered, answersAt}
+use Rattle.listing.specs.Outcome.{refusalOf, writes, listedOf, outputOf}
 use Rattle.listing.proofs.Writing.{sets-front}
-use Rattle.listing.proofs.Back.{Bytes, section-bytes}
-use Rattle.listing.proofs.Counts.{functions-are, patterns-are}
-use Rattle.listing.proofs.Sound.{Sound, sound, sound-of}
 
 -- a call that no test refuses
 pub record Accepted (b : List ℕ) (outputs : ℕ) : Type 0 where

@@ -7,15 +7,18 @@ use mathlib.Core.List.{List, [], _++_, append-assoc, append-nil}
 use native.Mathlib.Omega.{arith}
 use native.Mathlib.Nat.{zero-add}
 use lib.ListN.{length, drop, length-append}
-use Rattle.batch.specs.declared.refusal.Refusal.the-variants.{None}
+use Rattle.refusals.specs.declared.Refusal.the-variants.{None}
 use Rattle.listing.specs.declared.Listed.{Listed}
-use Rattle.listing.specs.Numbers.{numberAt}
-use Rattle.listing.specs.Sections.{section, answers, listing, answered, sectionAt, pastSection, functionsOf, patternsOf, pastPatterns}
-use Rattle.listing.specs.Order.{isNone, mostFunctions, mostPatterns, allKnown, sectionsRefusal, refusalOf}
-use Rattle.listing.specs.Outcome.{listedOf, outputOf}
-use Rattle.listing.proofs.Back.{Bytes, section-back, past-back}
-use Rattle.listing.proofs.Counts.{length-functions, length-patterns, length-listing}
-use Rattle.listing.proofs.Sound.{Sound, sound}
+use Rattle.numbers.specs.Numbers.{numberAt}
+use Rattle.refusals.specs.Refusals.{isNone}
+use Rattle.sections.specs.Sections.{section, sectionAt, pastSection, functionsOf, patternsOf, pastPatterns}
+use Rattle.sections.specs.Order.{mostFunctions, mostPatterns, allKnown, sectionsRefusal}
+use Rattle.sections.proofs.Back.{Bytes, section-back, past-back}
+use Rattle.sections.proofs.Counts.{length-functions, length-patterns}
+use Rattle.sections.proofs.Sound.{Sound, sound}
+use Rattle.listing.specs.Answered.{answers, listing, answered}
+use Rattle.listing.specs.Outcome.{refusalOf, listedOf, outputOf}
+use Rattle.listing.proofs.Counts.{length-listing}
 use Rattle.listing.proofs.Calls.{Accepted, accepted-of, accepted-call, is-listing}
 
 -- what the contract of `answer_listing` allows

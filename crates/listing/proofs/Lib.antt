@@ -1,9 +1,5 @@
-pub mod Reading
 pub mod Writing
-pub mod Back
 pub mod Counts
-pub mod Whole
-pub mod Sound
 pub mod Calls
 pub mod Laws
 pub mod Long

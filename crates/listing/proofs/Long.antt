@@ -5,11 +5,13 @@ use mathlib.Core.Bool.{Bool, true, false, cond}
 use mathlib.Core.List.{List, []}
 use native.Mathlib.Omega.{arith}
 use lib.ListN.{length}
-use Rattle.listing.specs.Sections.{answered, functionsOf, patternsOf, pastPatterns}
-use Rattle.listing.specs.Order.{isNone, mostFunctions, mostPatterns, refusalOf}
-use Rattle.listing.specs.Outcome.{writes}
-use Rattle.listing.proofs.Counts.{length-functions, length-patterns, past-is}
-use Rattle.listing.proofs.Sound.{Sound}
+use Rattle.refusals.specs.Refusals.{isNone}
+use Rattle.sections.specs.Sections.{functionsOf, patternsOf, pastPatterns}
+use Rattle.sections.specs.Order.{mostFunctions, mostPatterns}
+use Rattle.sections.proofs.Counts.{length-functions, length-patterns, past-is}
+use Rattle.sections.proofs.Sound.{Sound}
+use Rattle.listing.specs.Answered.{answered}
+use Rattle.listing.specs.Outcome.{refusalOf, writes}
 use Rattle.listing.proofs.Calls.{accepted-of}
 
 abbrev pub longest : ℕ

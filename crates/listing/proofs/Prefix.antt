@@ -8,11 +8,13 @@ use borrow.Author.Tests.{ltb-true, ltb-false}
 use lib.ListN.{length, take}
 use lib.Seq.{length-take-le, getD-take}
 use lib.Dec.{ltb}
-use Rattle.listing.specs.Numbers.{numberAt, numbersAt}
-use Rattle.listing.specs.Sections.{pastSection, functionsOf}
-use Rattle.listing.specs.Order.{isNone, mostFunctions, mostPatterns, sectionRefusal, sectionsRefusal, refusalOf}
-use Rattle.listing.proofs.Whole.{Whole, whole, whole-of, too-few, too-many}
-use Rattle.listing.proofs.Sound.{sound-of, functions-first}
+use Rattle.numbers.specs.Numbers.{numberAt, numbersAt}
+use Rattle.refusals.specs.Refusals.{isNone}
+use Rattle.sections.specs.Sections.{pastSection, functionsOf}
+use Rattle.sections.specs.Order.{mostFunctions, mostPatterns, sectionRefusal, sectionsRefusal}
+use Rattle.sections.proofs.Whole.{Whole, whole, whole-of, too-few, too-many}
+use Rattle.sections.proofs.Sound.{sound-of, functions-first}
+use Rattle.listing.specs.Outcome.{refusalOf}
 use Rattle.listing.proofs.Calls.{sections-first, bytes-after}
 use Rattle.listing.proofs.Long.{longest, sound-short}
 

@@ -8,14 +8,18 @@ use native.Mathlib.Nat.{mul-le-mul}
 use borrow.Author.Tests.{le-ltb, eq-eqb}
 use lib.ListN.{length}
 use lib.Dec.{ltb, eqb}
-use Rattle.batch.specs.declared.refusal.Refusal.{Refusal}
-use Rattle.batch.specs.declared.refusal.Refusal.the-variants.{Function, Output, Cut, Limits, After}
-use Rattle.batch.specs.Refusals.{numberOf}
-use Rattle.listing.specs.Numbers.{numberAt}
-use Rattle.listing.specs.Sections.{answered, pastSection, functionsOf, patternsOf, pastPatterns}
-use Rattle.listing.specs.Order.{isNone, _before_, refusedWhen, mostFunctions, mostPatterns, sectionRefusal, allKnown, sectionsRefusal, refusalOf}
-use Rattle.listing.proofs.Counts.{length-functions, length-patterns, length-answered}
-use Rattle.listing.proofs.Sound.{Sound, sound-of}
+use Rattle.refusals.specs.declared.Refusal.{Refusal}
+use Rattle.refusals.specs.declared.Refusal.the-variants.{Function, Output, Cut, Limits, After}
+use Rattle.refusals.specs.Refusals.{numberOf}
+use Rattle.numbers.specs.Numbers.{numberAt}
+use Rattle.refusals.specs.Refusals.{isNone, _before_, refusedWhen}
+use Rattle.sections.specs.Sections.{pastSection, functionsOf, patternsOf, pastPatterns}
+use Rattle.sections.specs.Order.{mostFunctions, mostPatterns, sectionRefusal, allKnown, sectionsRefusal}
+use Rattle.sections.proofs.Counts.{length-functions, length-patterns}
+use Rattle.sections.proofs.Sound.{Sound, sound-of}
+use Rattle.listing.specs.Answered.{answered}
+use Rattle.listing.specs.Outcome.{refusalOf}
+use Rattle.listing.proofs.Counts.{length-answered}
 use Rattle.listing.proofs.Long.{longest}
 
 abbrev pub longestAnswered : ℕ

@@ -1,46 +1,22 @@
--- Bytes written one after the other: what two writes side by side leave, and the bytes of one more number or one more row.
-use Prim.Native.Nat.{ℕ, suc, _+_, _*_, _≤_, _<_}
+-- The answered listing written part by part: one more answer, one more row, and the sections side by side.
+use Prim.Native.Nat.{ℕ, _+_, _*_, _≤_, _<_}
 use mathlib.Core.Path.{_≡_, refl, sym, ap, _∙_}
 use mathlib.Core.List.{List, [], _∷_, _++_, append-assoc, append-nil, map}
 use native.Mathlib.Omega.{arith}
 use native.Mathlib.Numerals.{add-one}
-use native.Mathlib.Nat.{add-zero, zero-add, suc-mul, mul-le-mul-right}
-use lib.ListN.{length, take, drop, getD, set, length-append, length-map}
-use lib.Seq.{sets, sets-eq, take-suc, length-take-le}
+use native.Mathlib.Nat.{zero-add, suc-mul, mul-le-mul-right}
+use lib.ListN.{length, drop, length-append, length-map}
+use lib.Seq.{sets, sets-eq}
 use Rattle.p16e1.specs.Functions.{answerOf}
-use Rattle.listing.specs.Numbers.{bytesOf, bytesOfAll, numberAt, numbersAt}
-use Rattle.listing.specs.Sections.{section, answers}
-use Rattle.listing.proofs.Reading.{length-numbersAt, numbersAt-next}
-
-pub sets-append : (l : List ℕ) (i : ℕ) (xs ys : List ℕ) → sets l i (xs ++ ys) ≡ sets (sets l i xs) (i + length xs) ys
-sets-append l i [] ys = rw add-zero
-sets-append l i (x ∷ xs) ys =
-    let e : suc i + length xs ≡ i + suc (length xs) = omega arith in
-    sets-append (set l i x) (suc i) xs ys ∙ ap (λ (k : ℕ). sets (sets (set l i x) (suc i) xs) k ys) e
-
-sets-snoc : (l : List ℕ) (i : ℕ) (xs : List ℕ) (y : ℕ) → sets l i (xs ++ (y ∷ [])) ≡ set (sets l i xs) (i + length xs) y
-sets-snoc l i xs y = sets-append l i xs (y ∷ [])
-
--- one byte more of a list that is written from its front
-pub sets-take : (l : List ℕ) (i : ℕ) (vs : List ℕ) (j : ℕ) → j < length vs → set (sets l i (take j vs)) (i + j) (getD vs j 0) ≡ sets l i (take (j + 1) vs)
-sets-take l i vs j h =
-    let e : length (take j vs) ≡ j = length-take-le j vs (omega arith) in
-    rw (add-one, take-suc vs j 0 h, sets-snoc, e)
+use Rattle.numbers.specs.Numbers.{bytesOf, bytesOfAll, numberAt, numbersAt}
+use Rattle.numbers.proofs.Reading.{length-numbersAt, numbersAt-next}
+use Rattle.numbers.proofs.Writing.{sets-append, bytesOfAll-append, bytesOfAll-snoc, length-bytesOfAll}
+use Rattle.sections.specs.Sections.{section}
+use Rattle.listing.specs.Answered.{answers}
 
 -- what is written over the first places stands before the rest
 pub sets-front : (l vs : List ℕ) → length vs ≤ length l → sets l 0 vs ≡ vs ++ drop (length vs) l
 sets-front l vs h = sets-eq vs l 0 (omega arith) ∙ ap (λ (k : ℕ). vs ++ drop k l) (zero-add (length vs))
-
-pub bytesOfAll-append : (vs ws : List ℕ) → bytesOfAll (vs ++ ws) ≡ bytesOfAll vs ++ bytesOfAll ws
-bytesOfAll-append [] ws = refl
-bytesOfAll-append (v ∷ vs) ws = rw (bytesOfAll-append vs ws)
-
-pub bytesOfAll-snoc : (ws : List ℕ) (w : ℕ) → bytesOfAll (ws ++ (w ∷ [])) ≡ bytesOfAll ws ++ bytesOf w
-bytesOfAll-snoc ws w = bytesOfAll-append ws (w ∷ [])
-
-pub length-bytesOfAll : (ws : List ℕ) → length (bytesOfAll ws) ≡ 2 * length ws
-length-bytesOfAll [] = refl
-length-bytesOfAll (w ∷ ws) = omega (arith, length-bytesOfAll ws)
 
 pub map-snoc : (g : ℕ → ℕ) (ws : List ℕ) (w : ℕ) → map g (ws ++ (w ∷ [])) ≡ map g ws ++ (g w ∷ [])
 map-snoc g [] w = refl

@@ -1,4 +1,2 @@
-pub mod Numbers
-pub mod Sections
-pub mod Order
+pub mod Answered
 pub mod Outcome

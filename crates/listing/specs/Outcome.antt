@@ -1,17 +1,25 @@
--- "a refused listing returns 0 bytes written" and does not change the output; "A call that succeeds changes only .. the first
--- bytes of the answered length." What a call returns and leaves, and what the reader of the two sections returns.
+-- "Listing: sections in order .. After both, 6, then 2." "a refused listing returns 0 bytes written" and does not change the
+-- output; "A call that succeeds changes only .. the first bytes of the answered length." What a call returns and leaves, for any
+-- bytes and any output.
 use Prim.Native.Nat.{ℕ}
 use mathlib.Core.List.{List, [], _∷_, _++_}
 use mathlib.Core.Bool.{cond}
 use lib.ListN.{length, drop}
 use lib.Dec.{ltb}
-use Rattle.batch.specs.declared.refusal.Refusal.{Refusal}
-use Rattle.batch.specs.Refusals.{numberOf}
+use Rattle.refusals.specs.declared.Refusal.{Refusal}
+use Rattle.refusals.specs.declared.Refusal.the-variants.{Output, After}
+use Rattle.refusals.specs.Refusals.{numberOf, isNone, _before_, refusedWhen}
+use Rattle.numbers.specs.Numbers.{bytesOf}
+use Rattle.sections.specs.Sections.{functionsOf, patternsOf, pastPatterns}
+use Rattle.sections.specs.Order.{sectionsRefusal}
 use Rattle.listing.specs.declared.Listed.{Listed}
-use Rattle.listing.specs.declared.sections.Sections.{Sections}
-use Rattle.listing.specs.Numbers.{bytesOf}
-use Rattle.listing.specs.Sections.{functionsOf, patternsOf, answered}
-use Rattle.listing.specs.Order.{isNone, sectionsRefusal, refusalOf}
+use Rattle.listing.specs.Answered.{answered}
+
+unfoldable pub refusalOf : List ℕ → ℕ → Refusal
+refusalOf b outputs =
+    sectionsRefusal b
+    before refusedWhen (ltb (pastPatterns b) (length b)) After
+    before refusedWhen (ltb outputs (length (answered (functionsOf b) (patternsOf b)))) Output
 
 -- the bytes that a call writes: the answered listing, or none
 unfoldable pub writes : List ℕ → ℕ → List ℕ
@@ -22,15 +30,6 @@ listedOf b outputs = record { written = length (writes b outputs); refusal = ref
 
 abbrev pub outputOf : List ℕ → List ℕ → List ℕ
 outputOf b output = writes b (length output) ++ drop (length (writes b (length output))) output
-
--- how many functions and patterns there are: none where the sections are refused
-abbrev pub sectionsOf : List ℕ → Sections
-sectionsOf b =
-    record {
-      functions = cond (isNone (sectionsRefusal b)) (length (functionsOf b)) 0;
-      patterns = cond (isNone (sectionsRefusal b)) (length (patternsOf b)) 0;
-      refusal = sectionsRefusal b;
-    }
 
 -- "when refused it writes FF FF and the refusal number as two bytes"
 abbrev pub reply : Refusal → List ℕ

@@ -1,14 +1,10 @@
 // A listing of functions and patterns, and its answered form.
-mod numbers;
 mod rows;
-mod sections;
 
 ghost use mathlib.Core.Path.{_≡_};
 ghost use lib.ListN.{length};
 ghost use Rattle.listing.specs.Outcome.{listedOf, outputOf, replyLength, withReply};
-use batch::Refusal;
-pub use sections::Sections;
-pub use sections::read_sections;
+use refusals::Refusal;
 
 // What a call did: how many bytes it wrote, and why it was refused, if it was.
 pub struct Listed {
@@ -21,9 +17,9 @@ pub fn answer_listing(input: &[u8], output: &mut [u8]) -> Listed
     ensures { λ r. ⌜ r ≡ listedOf (now (input .entry)) (length (now (output .entry))) ⌝ }
     ensures { λ r. ⌜ now (output .exit) ≡ outputOf (now (input .entry)) (now (output .entry)) ⌝ }
 {
-    let found = read_sections(input);
+    let found = sections::read_sections(input);
     let refusal = found.refusal;
-    if batch::number(refusal) != 0 {
+    if refusals::number(refusal) != 0 {
         return refused(refusal);
     }
     let functions = found.functions;
@@ -63,6 +59,6 @@ pub fn put_refusal(output: &mut [u8], refusal: Refusal) -> usize
     }
     output[0] = 0xFF;
     output[1] = 0xFF;
-    numbers::put_number(output, 2, batch::number(refusal));
+    numbers::put_number(output, 2, refusals::number(refusal));
     4
 }

@@ -6,12 +6,13 @@ ghost use Prim.Native.Nat.{_+_, _*_, _≤_, _<_};
 ghost use lib.ListN.{length};
 ghost use lib.Seq.{sets};
 ghost use Rattle.p16e1.specs.Functions.{known, answerOf};
-ghost use Rattle.listing.specs.Numbers.{bytesOfAll, numbersAt};
-ghost use Rattle.listing.specs.Sections.{section, answersAt};
-ghost use Rattle.listing.specs.Order.{allKnown};
-use crate::numbers::copy;
-use crate::numbers::number_at;
-use crate::numbers::put_number;
+ghost use Rattle.numbers.specs.Numbers.{bytesOfAll, numbersAt};
+ghost use Rattle.sections.specs.Sections.{section};
+ghost use Rattle.sections.specs.Order.{allKnown};
+ghost use Rattle.listing.specs.Answered.{answersAt};
+use numbers::copy;
+use numbers::number_at;
+use numbers::put_number;
 
 // Writes the answered form of the listing in `input`, which has so many functions and patterns and nothing after them.
 pub fn write_answered(input: &[u8], functions: usize, patterns: usize, output: &mut [u8])
@@ -45,7 +46,8 @@ fn write_answers(input: &[u8], functions: usize, patterns: usize, output: &mut [
     }
 }
 
-// Writes one function's answers to the `patterns` patterns that stand from the place `from` on.
+// Writes one function's answers to the `patterns` patterns that stand from the place `from` on. It reads and writes bytes itself:
+// whether they are there, which `number_at` and `put_number` ask each time, is known of all of them.
 fn write_row(
     function: u16,
     input: &[u8],
@@ -61,8 +63,13 @@ fn write_row(
 {
     let mut i: usize = 0;
     while i < patterns {
-        let a = p16e1::answer_or_nar(function, number_at(input, from + 2 * i));
-        put_number(output, to + 2 * i, a);
+        let at = from + 2 * i;
+        let next = at + 1;
+        let a = p16e1::answer_or_nar(function, input[at] as u16 + 256 * (input[next] as u16));
+        let low = to + 2 * i;
+        let high = low + 1;
+        output[low] = (a % 256) as u8;
+        output[high] = (a / 256) as u8;
         i += 1;
     }
 }

@@ -5,9 +5,8 @@
 ghost use mathlib.Core.Path.{_≡_};
 ghost use Prim.Native.Nat.{_+_, _<_, _≤_};
 ghost use lib.ListN.{length, take};
-ghost use lib.Seq.{sets};
 ghost use Rattle.io.specs.Counts.{Counts};
-ghost use Rattle.blocks.specs.Words.{littleEndian, wordAt};
+ghost use Rattle.blocks.specs.Words.{wordAt};
 ghost use Rattle.patterns.specs.Patterns.{patternsOf};
 
 fn wide(byte: u8) -> u64
@@ -29,15 +28,6 @@ fn bits_at(bytes: &[u8], i: usize) -> u64
     bits
 }
 
-fn put_pattern(output: &mut [u8], at: usize, p: u16)
-    requires { ⌜ at + 2 ≤ length (now output) ⌝ }
-    ensures { λ _. ⌜ now (output .exit) ≡ sets (now (output .entry)) at (littleEndian 2 p) ⌝ }
-{
-    let next = at + 1;
-    output[at] = (p % 256) as u8;
-    output[next] = (p / 256 % 256) as u8;
-}
-
 // Writes the pattern of each f64 in `bytes` into the first bytes of `output`, and answers how many bytes that is.
 fn convert(bytes: &[u8], output: &mut [u8]) -> usize
     requires { ⌜ length (now bytes) ≤ length (now output) ⌝ }
@@ -48,7 +38,7 @@ fn convert(bytes: &[u8], output: &mut [u8]) -> usize
     let mut i: usize = 0;
     while i < count {
         let p = real::from_bits(bits_at(bytes, 8 * i));
-        put_pattern(output, 2 * i, p);
+        numbers::put_number(output, 2 * i, p);
         i += 1;
     }
     2 * count

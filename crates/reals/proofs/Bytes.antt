@@ -8,19 +8,20 @@ use native.Mathlib.Nat.{mul-one}
 use native.Mathlib.Numerals.{add-one}
 use lib.IntN.{pos, negsuc}
 use lib.Pow.{pow-pos}
-use lib.ListN.{length, take, getD}
+use lib.ListN.{length, take}
 use lib.Seq.{sets}
 use lib.Ieee.{Float, binary64, toBits}
 use Rattle.posit.specs.Number.{Number, nar, real, number}
 use Rattle.real.specs.Reals.{Holds, ToF64}
 use Rattle.real.specs.declared.numbers.RealAnswer.the-variants.{Real, NaR}
 use Rattle.real.proofs.Same.{same-bits}
+use Rattle.numbers.specs.Numbers.{numberAt}
 use Rattle.blocks.specs.Words.{littleEndian, wordAt, wordsAt, forEach}
 use Rattle.blocks.proofs.Converting.{length-littleEndian, one-more}
 use Rattle.reals.specs.Reals.{over28, bytesOf}
 
 -- a pattern's two bytes
-pub pair : (b : List ℕ) (i : ℕ) → getD b i 0 + 256 * getD b (i + 1) 0 ≡ wordAt 2 b i
+pair : (b : List ℕ) (i : ℕ) → numberAt b i ≡ wordAt 2 b i
 pair b i = rw add-one (omega arith)
 
 eight-of : (z : Number) → length (bytesOf z) ≡ 8
@@ -45,7 +46,7 @@ nar-bytes p v = sym (ap bytesOf v)
 
 -- one pattern more of a block
 pub pattern-more : (b l l₁ e : List ℕ) (n p : ℕ) → 8 * n + 8 ≤ length l → take (8 * n) l ≡ forEach (λ q. bytesOf (number 1 16 q)) (wordsAt 2 b 0 n)
-    → p ≡ getD b (2 * n) 0 + 256 * getD b (2 * n + 1) 0 → e ≡ bytesOf (number 1 16 p) → l₁ ≡ sets l (8 * n) e
+    → p ≡ numberAt b (2 * n) → e ≡ bytesOf (number 1 16 p) → l₁ ≡ sets l (8 * n) e
     → take (8 * (n + 1)) l₁ ≡ forEach (λ q. bytesOf (number 1 16 q)) (wordsAt 2 b 0 (n + 1))
 pattern-more b l l₁ e n p fits before read given now =
     one-more 2 8 (λ q. bytesOf (number 1 16 q)) eight b l l₁ n fits before

@@ -2,26 +2,13 @@
 // byte first: eight FF bytes for NaR. A last odd byte is ignored. It ends at the first read or write that fails, and says so.
 // `tools/reals-check --write` made stdin, which is every pattern in order and an odd byte, and from it stdout, with exact fractions.
 ghost use mathlib.Core.Path.{_≡_};
-ghost use Prim.Native.Nat.{_+_, _*_, _<_, _≤_};
-ghost use lib.ListN.{getD, length, take};
+ghost use Prim.Native.Nat.{_+_, _*_, _≤_};
+ghost use lib.ListN.{length, take};
 ghost use lib.Seq.{sets};
 ghost use Rattle.io.specs.Counts.{Counts};
 ghost use Rattle.blocks.specs.Words.{littleEndian};
 ghost use Rattle.reals.specs.Reals.{realsOf};
 use real::RealAnswer;
-
-fn wide(byte: u8) -> u16
-    ensures { λ r. ⌜ (r ≡ byte) × (r < 256) ⌝ }
-{
-    byte as u16
-}
-
-fn pattern_at(bytes: &[u8], i: usize) -> u16
-    requires { ⌜ i + 1 < length (now bytes) ⌝ }
-    ensures { λ p. ⌜ p ≡ getD (now (bytes .entry)) i 0 + 256 * getD (now (bytes .entry)) (i + 1) 0 ⌝ }
-{
-    wide(bytes[i]) + 256 * wide(bytes[i + 1])
-}
 
 fn put_word(output: &mut [u8], at: usize, word: u64)
     requires { ⌜ at + 8 ≤ length (now output) ⌝ }
@@ -45,7 +32,7 @@ fn convert(bytes: &[u8], output: &mut [u8]) -> usize
     let count = bytes.len() / 2;
     let mut i: usize = 0;
     while i < count {
-        let p = pattern_at(bytes, 2 * i);
+        let p = numbers::number_at(bytes, 2 * i);
         let at = 8 * i;
         i += 1;
         let RealAnswer::Real(x) = real::to_f64(p) else {

@@ -7,11 +7,11 @@ use native.Mathlib.Omega.{arith}
 use lib.Dec.{ltb}
 use lib.ListN.{length, take, drop, length-append}
 use lib.Seq.{length-take-le}
-use Rattle.batch.specs.Refusals.{numberOf}
-use Rattle.batch.specs.declared.refusal.Refusal.{Refusal}
+use Rattle.refusals.specs.Refusals.{numberOf}
+use Rattle.refusals.specs.declared.Refusal.{Refusal}
 use Rattle.listing.specs.declared.Listed.{Listed}
-use Rattle.listing.specs.Order.{isNone, refusalOf}
-use Rattle.listing.specs.Outcome.{writes, listedOf, reply, replyLength, withReply}
+use Rattle.refusals.specs.Refusals.{isNone}
+use Rattle.listing.specs.Outcome.{refusalOf, writes, listedOf, reply, replyLength, withReply}
 use Rattle.listing.specs.Outcome as Listing
 use Rattle.listing.proofs.Long.{long-refused}
 use Rattle.listing.proofs.Room.{never-short}

@@ -5,9 +5,10 @@ use mathlib.Core.List.{List, [], _++_}
 use mathlib.Core.Bool.{cond}
 use lib.Dec.{ltb}
 use lib.ListN.{length, drop}
-use Rattle.listing.specs.Sections.{functionsOf, patternsOf, answered}
-use Rattle.listing.specs.Order.{isNone, refusalOf}
-use Rattle.listing.specs.Outcome.{reply}
+use Rattle.refusals.specs.Refusals.{isNone}
+use Rattle.sections.specs.Sections.{functionsOf, patternsOf}
+use Rattle.listing.specs.Answered.{answered}
+use Rattle.listing.specs.Outcome.{refusalOf, reply}
 
 unfoldable pub replyOf : List ℕ → ℕ → List ℕ
 replyOf b outputs =

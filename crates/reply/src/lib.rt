@@ -13,7 +13,7 @@ pub fn reply_to(input: &[u8], output: &mut [u8]) -> usize
 {
     let listed = listing::answer_listing(input, output);
     let refusal = listed.refusal;
-    if batch::number(refusal) == 0 {
+    if refusals::number(refusal) == 0 {
         return listed.written;
     }
     listing::put_refusal(output, refusal)

@@ -4,7 +4,7 @@ use native.Mathlib.Omega.{arith}
 use denote.Ref.{now}
 use borrow.Author.Needs.{needs}
 use borrow.Author.Tests.{not-true, not-false}
-use Rattle.batch.specs.declared.refusal.Refusal.the-variants.{Function, Output, Start}
+use Rattle.refusals.specs.declared.Refusal.the-variants.{Function, Output, Start}
 use Rattle.batch.proofs.Order.{unknown-function, output-short, start-beyond, not-refused, refused-does-nothing, accepted-does}
 use Rattle.batch.proofs.batch.Statement.{statement}
 use Rattle.batch.proofs.batch.Tie as tie

@@ -8,15 +8,18 @@ use native.Mathlib.Omega.{arith}
 use native.Mathlib.Nat.{mul-le-mul}
 use denote.Ref.{now}
 use lib.ListN.{length}
-use Rattle.batch.specs.declared.refusal.Refusal.{Refusal}
-use Rattle.batch.specs.declared.refusal.Refusal.the-variants.{Output, After}
-use Rattle.listing.specs.declared.sections.Sections.{Sections}
-use Rattle.listing.specs.Sections.{answered, pastPatterns, functionsOf, patternsOf}
-use Rattle.listing.specs.Order.{isNone, sectionsRefusal, allKnown}
-use Rattle.listing.proofs.Back.{Bytes}
-use Rattle.listing.proofs.Counts.{length-functions, length-patterns, past-is, size-is, functions-are}
-use Rattle.listing.proofs.Whole.{refuses, accepts}
-use Rattle.listing.proofs.Sound.{Sound, sound, sound-of, sections-within}
+use Rattle.refusals.specs.declared.Refusal.{Refusal}
+use Rattle.refusals.specs.declared.Refusal.the-variants.{Output, After}
+use Rattle.sections.specs.declared.Sections.{Sections}
+use Rattle.refusals.specs.Refusals.{isNone}
+use Rattle.refusals.proofs.Refusing.{refuses, accepts}
+use Rattle.sections.specs.Sections.{pastPatterns, functionsOf, patternsOf}
+use Rattle.sections.specs.Order.{sectionsRefusal, allKnown}
+use Rattle.sections.proofs.Back.{Bytes}
+use Rattle.sections.proofs.Counts.{length-functions, length-patterns, past-is, functions-are}
+use Rattle.sections.proofs.Sound.{Sound, sound, sound-of, sections-within}
+use Rattle.listing.specs.Answered.{answered}
+use Rattle.listing.proofs.Counts.{size-is}
 use Rattle.listing.proofs.Calls.{Accepted, sections-first, bytes-after, output-last, refused-call, accepted-result, writes-answered}
 use Rattle.listing.proofs.answer_listing.Statement.{statement}
 use Rattle.listing.proofs.answer_listing.Tie as tie

@@ -7,7 +7,7 @@ use mathlib.Core.List.{_∷_, _++_}
 use native.Mathlib.Omega.{arith}
 use denote.Ref.{now}
 use lib.ListN.{length, drop, length-set}
-use Rattle.listing.specs.Numbers.{bytesOf}
+use Rattle.numbers.specs.Numbers.{bytesOf}
 use Rattle.listing.proofs.Writing.{sets-front}
 use Rattle.listing.proofs.put_refusal.Statement.{statement}
 use Rattle.listing.proofs.put_refusal.Tie as tie
@@ -25,7 +25,7 @@ number-requires : tie.Need-number-requires
 number-requires c κs = search needs
 
 put-number-requires : tie.Need-put-number-requires
-put-number-requires c κs = simp length-set (omega arith)
+put-number-requires c κs = search needs
 
 same-length : tie.Need-same-length
 same-length c = simp length-set at (c .before .before .put-number .kept .0)

@@ -30,11 +30,11 @@ bits-at-requires c κs = search needs
 from-bits-requires : tie.Need-from-bits-requires Inv-loop μ-loop
 from-bits-requires c κs = search needs
 
-mul-put-pattern : tie.Need-mul-put-pattern Inv-loop μ-loop
-mul-put-pattern c = search needs
+mul-put-number : tie.Need-mul-put-number Inv-loop μ-loop
+mul-put-number c = search needs
 
-put-pattern-requires : tie.Need-put-pattern-requires Inv-loop μ-loop
-put-pattern-requires c κs = search needs
+put-number-requires : tie.Need-put-number-requires Inv-loop μ-loop
+put-number-requires c κs = search needs
 
 add-i : tie.Need-add-i Inv-loop μ-loop
 add-i c = search needs
@@ -44,7 +44,7 @@ loop-less c = search needs
 
 loop-again : tie.Need-loop-again Inv-loop μ-loop
 loop-again c =
-    let put = c .before .before .put-pattern in
+    let put = c .before .before .put-number in
     let given = c .before .before .before .before in
     let read = given .before in
     let l = read .before .before .loop in
@@ -52,7 +52,7 @@ loop-again c =
       omega arith,
       search needs,
       real-more b (l .output) _ (l .i) (read .bits-at .result) (given .from-bits .result)
-          (search needs) (l .inv .2) (read .bits-at .ensures) (given .from-bits .ensures) (put .ensures),
+          (search needs) (l .inv .2) (read .bits-at .ensures) (search needs) (given .from-bits .ensures) (put .ensures),
     )
 
 mul-result : tie.Need-mul-result Inv-loop μ-loop
@@ -78,8 +78,8 @@ convert-spec =
     mul-bits-at
     bits-at-requires
     from-bits-requires
-    mul-put-pattern
-    put-pattern-requires
+    mul-put-number
+    put-number-requires
     add-i
     loop-less
     loop-again

@@ -25,11 +25,11 @@ abbrev μ-loop : tie.MeasureT-loop
 loop-holds : tie.Need-loop-holds Inv-loop μ-loop
 loop-holds c = search needs
 
-mul-pattern-at : tie.Need-mul-pattern-at Inv-loop μ-loop
-mul-pattern-at c = search needs
+mul-number-at : tie.Need-mul-number-at Inv-loop μ-loop
+mul-number-at c = search needs
 
-pattern-at-requires : tie.Need-pattern-at-requires Inv-loop μ-loop
-pattern-at-requires c κs = search needs
+number-at-requires : tie.Need-number-at-requires Inv-loop μ-loop
+number-at-requires c κs = search needs
 
 mul-at : tie.Need-mul-at Inv-loop μ-loop
 mul-at c = search needs
@@ -60,18 +60,18 @@ loop-again c =
     let read = answered .before in
     let l = read .before .before .loop in
     let b = now (read .before .before .before .before .before .args .bytes) in
-    let nar = nar-bytes (read .pattern-at .result) (subst (ToF64 (read .pattern-at .result)) (told .enum-told .given .1) (answered .to-f64 .ensures)) in (
+    let nar = nar-bytes (read .number-at .result) (subst (ToF64 (read .number-at .result)) (told .enum-told .given .1) (answered .to-f64 .ensures)) in (
       omega arith,
       search needs,
-      pattern-more b (l .output) _ _ (l .i) (read .pattern-at .result)
-          (search needs) (l .inv .2) (read .pattern-at .ensures) nar (put .ensures),
+      pattern-more b (l .output) _ _ (l .i) (read .number-at .result)
+          (search needs) (l .inv .2) (read .number-at .ensures) nar (put .ensures),
     )
 
 float-to-bits-put-word : tie.Need-float-to-bits-put-word Inv-loop μ-loop
 float-to-bits-put-word c =
     let found = c .before .before in
     let answered = found .before .before in
-    let p = answered .before .pattern-at .result in
+    let p = answered .before .number-at .result in
     real-no-nan p (found .x .given .0 .0) (subst (ToF64 p) (found .x .given .1) (answered .to-f64 .ensures))
 
 put-word-requires-2 : tie.Need-put-word-requires-2 Inv-loop μ-loop
@@ -88,9 +88,9 @@ loop-again-2 c =
     let read = answered .before in
     let l = read .before .before .loop in
     let b = now (read .before .before .before .before .before .args .bytes) in
-    let p = read .pattern-at .result in
+    let p = read .number-at .result in
     let real = real-bytes p (found .x .given .0 .0) (subst (ToF64 p) (found .x .given .1) (answered .to-f64 .ensures)) in
-    (omega arith, search needs, pattern-more b (l .output) _ _ (l .i) p (search needs) (l .inv .2) (read .pattern-at .ensures) real (put .ensures))
+    (omega arith, search needs, pattern-more b (l .output) _ _ (l .i) p (search needs) (l .inv .2) (read .number-at .ensures) real (put .ensures))
 
 mul-result : tie.Need-mul-result Inv-loop μ-loop
 mul-result c = search needs
@@ -112,8 +112,8 @@ convert-spec =
     Inv-loop
     μ-loop
     loop-holds
-    mul-pattern-at
-    pattern-at-requires
+    mul-number-at
+    number-at-requires
     mul-at
     add-i
     to-f64-requires

@@ -2,7 +2,7 @@
 use borrow.Author.Needs.{needs}
 use mathlib.Core.Path.{_∙_}
 use denote.Ref.{now}
-use Rattle.listing.proofs.Whole.{refuses, accepts}
+use Rattle.refusals.proofs.Refusing.{refuses, accepts}
 use Rattle.reply.proofs.Replies.{counted, answered-reply, refused-reply}
 use Rattle.reply.proofs.reply_to.Statement.{statement}
 use Rattle.reply.proofs.reply_to.Tie as tie

@@ -2,7 +2,7 @@
 use mathlib.Core.Path.{ap, _∙_}
 use borrow.Author.Needs.{needs}
 use Rattle.batch.specs.declared.Batched.{Batched}
-use Rattle.batch.specs.Refusals.{numberOf}
+use Rattle.refusals.specs.Refusals.{numberOf}
 use Rattle.balehasp.proofs.calls.balehasp_batch.Statement.{statement}
 use Rattle.balehasp.proofs.calls.balehasp_batch.Tie as tie
 

@@ -2,7 +2,7 @@
 use mathlib.Core.Path.{ap, _∙_}
 use borrow.Author.Needs.{needs}
 use Rattle.listing.specs.declared.Listed.{Listed}
-use Rattle.batch.specs.Refusals.{numberOf}
+use Rattle.refusals.specs.Refusals.{numberOf}
 use Rattle.balehasp.proofs.calls.balehasp_listing.Statement.{statement}
 use Rattle.balehasp.proofs.calls.balehasp_listing.Tie as tie
 

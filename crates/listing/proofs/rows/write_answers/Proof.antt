@@ -6,9 +6,10 @@ use native.Mathlib.Omega.{arith}
 use denote.Ref.{now}
 use lib.ListN.{length}
 use lib.Seq.{sets}
-use Rattle.listing.specs.Numbers.{bytesOfAll, numbersAt}
-use Rattle.listing.specs.Sections.{answers}
-use Rattle.listing.proofs.Reading.{known-at, length-numbersAt}
+use Rattle.numbers.specs.Numbers.{bytesOfAll, numbersAt}
+use Rattle.numbers.proofs.Reading.{length-numbersAt}
+use Rattle.sections.proofs.Known.{known-at}
+use Rattle.listing.specs.Answered.{answers}
 use Rattle.listing.proofs.Writing.{answers-next, next-row, row-within}
 use Rattle.listing.proofs.rows.write_answers.Statement.{statement}
 use Rattle.listing.proofs.rows.write_answers.Tie as tie

@@ -1,0 +1,28 @@
+-- The refusals and their numbers in document 01, for every call: "1 function number outside 1 to 10; 2 output shorter than the
+-- input (batch) or than the answered listing; 3 start beyond the input's length; 4 a count or a section is cut short; 5 a count
+-- outside its limits; 6 bytes after the patterns". And which of two comes first.
+use Prim.Native.Nat.{ℕ}
+use mathlib.Core.Bool.{Bool, cond}
+use lib.Dec.{eqb}
+use Rattle.refusals.specs.declared.Refusal.{Refusal}
+use Rattle.refusals.specs.declared.Refusal.the-variants.{None, Function, Output, Start, Cut, Limits, After}
+
+abbrev pub numberOf : Refusal → ℕ
+numberOf None = 0
+numberOf Function = 1
+numberOf Output = 2
+numberOf Start = 3
+numberOf Cut = 4
+numberOf Limits = 5
+numberOf After = 6
+
+abbrev pub isNone : Refusal → Bool
+isNone r = eqb (numberOf r) 0
+
+-- the first of two refusals
+infixr 25 _before_
+abbrev pub _before_ : Refusal → Refusal → Refusal
+r before s = cond (isNone r) s r
+
+abbrev pub refusedWhen : Bool → Refusal → Refusal
+refusedWhen t r = cond t r None

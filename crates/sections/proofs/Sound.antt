@@ -1,0 +1,66 @@
+-- Which refusal of the two sections comes first, and what holds of them where none does.
+use Prim.Native.Nat.{ℕ, _≤_}
+use mathlib.Core.Path.{_≡_, refl, sym, _∙_}
+use mathlib.Core.Bool.{Bool, true, false, cond, not, false≢true}
+use mathlib.Core.List.{List}
+use lib.ListN.{length}
+use Rattle.refusals.specs.declared.Refusal.{Refusal}
+use Rattle.refusals.specs.declared.Refusal.the-variants.{None, Function}
+use Rattle.refusals.specs.Refusals.{isNone, _before_, refusedWhen}
+use Rattle.sections.specs.Sections.{pastSection, functionsOf, patternsOf, pastPatterns}
+use Rattle.sections.specs.Order.{mostFunctions, mostPatterns, sectionRefusal, allKnown, sectionsRefusal, sectionsOf}
+use Rattle.sections.proofs.Whole.{Whole, whole, whole-of}
+
+-- sections that are not refused
+pub record Sound (b : List ℕ) : Type 0 where
+  pub functions : Whole b 0 1 mostFunctions
+  pub all-known : allKnown (functionsOf b) ≡ true
+  pub patterns : Whole b (pastSection b 0) 0 mostPatterns
+
+module _ (b : List ℕ) where
+  pub functions-first : (r : Refusal) → r ≡ sectionRefusal b 0 1 mostFunctions → isNone r ≡ false → sectionsRefusal b ≡ r
+  unfolding sectionsRefusal
+  functions-first r e n = rw (← e, n)
+
+  module _ (w : Whole b 0 1 mostFunctions) where
+    pub unknown-next : allKnown (functionsOf b) ≡ false → sectionsRefusal b ≡ Function
+    unfolding sectionsRefusal
+    unknown-next k = rw (whole b 0 1 mostFunctions w, k)
+
+    pub patterns-last : allKnown (functionsOf b) ≡ true → sectionsRefusal b ≡ sectionRefusal b (pastSection b 0) 0 mostPatterns
+    unfolding sectionsRefusal
+    patterns-last k = rw (whole b 0 1 mostFunctions w, k)
+
+  pub sound : Sound b → sectionsRefusal b ≡ None
+  sound s = patterns-last (s .functions) (s .all-known) ∙ whole b (pastSection b 0) 0 mostPatterns (s .patterns)
+
+parts : (r s : Refusal) (k : Bool) → isNone (r before refusedWhen (not k) Function before s) ≡ true → (isNone r ≡ true) × (k ≡ true) × (isNone s ≡ true)
+parts r s k e = go (isNone r) refl k e
+  where
+    go : (t : Bool) → isNone r ≡ t → (k : Bool) → isNone (cond t (refusedWhen (not k) Function before s) r) ≡ true
+        → (isNone r ≡ true) × (k ≡ true) × (isNone s ≡ true)
+    go true h true e = (h, refl, e)
+    go true h false e = absurd (false≢true e)
+    go false h k e = absurd (false≢true (sym h ∙ e))
+
+pub sound-of : (b : List ℕ) → isNone (sectionsRefusal b) ≡ true → Sound b
+unfolding sectionsRefusal
+sound-of b e =
+    let h = parts (sectionRefusal b 0 1 mostFunctions) (sectionRefusal b (pastSection b 0) 0 mostPatterns) (allKnown (functionsOf b)) e in
+    record {
+      functions = whole-of b 0 1 mostFunctions (h .0);
+      all-known = h .1;
+      patterns = whole-of b (pastSection b 0) 0 mostPatterns (h .2);
+    }
+
+pub refused-sections : (b : List ℕ) (r : Refusal) → sectionsRefusal b ≡ r
+    → isNone r ≡ false → record { functions = 0; patterns = 0; refusal = r } ≡ sectionsOf b
+refused-sections b r e n = rw (e, n)
+
+pub sound-sections : (b : List ℕ) (functions patterns : ℕ) → Sound b → functions ≡ length (functionsOf b) → patterns ≡ length (patternsOf b)
+    → record { functions = functions; patterns = patterns; refusal = None } ≡ sectionsOf b
+sound-sections b functions patterns s f p = rw (sound b s, f, p)
+
+pub sections-within : (b : List ℕ) → Sound b → pastPatterns b ≤ length b
+unfolding pastPatterns
+sections-within b s = s .patterns .present
