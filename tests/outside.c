@@ -187,7 +187,7 @@ static void misused_batch(const void *input, size_t inputs, void *output, size_t
 /* Overlaps other than the same place, odd addresses, null pointers, lengths that nothing can have. Returns how many. */
 static unsigned misused_batches(void)
 {
-    _Static_assert(BALEHASP_MISUSED > BALEHASP_REFUSED_AFTER, "no refusal's number");
+    _Static_assert(BALEHASP_MISUSED > BALEHASP_REFUSED_DIFFERENT, "no refusal's number");
     unsigned count = 0;
     uint8_t *whole = place(&batch_out, 400, true);
     for (size_t n = 1; n <= 40; n++) {
@@ -307,10 +307,14 @@ static size_t put(uint8_t *bytes, size_t at, uint16_t number)
     return at + 2;
 }
 
-/* The answered listing into `out`, which is long enough, and its length; or the refusal. */
-static uint16_t model_listing(const uint8_t *in, size_t length, size_t room, uint8_t *out, size_t *written)
+/* What a listing asks: how many functions and how many patterns, and where the patterns end. */
+typedef struct {
+    size_t functions, patterns, end;
+} Asked;
+
+/* The two sections of a listing, or the first refusal in them. What comes after them is the caller's to judge. */
+static uint16_t model_sections(const uint8_t *in, size_t length, Asked *asked)
 {
-    *written = 0;
     if (length < 2)
         return BALEHASP_REFUSED_CUT;
     size_t functions = number_at(in, 0);
@@ -329,15 +333,27 @@ static uint16_t model_listing(const uint8_t *in, size_t length, size_t room, uin
         return BALEHASP_REFUSED_LIMITS;
     if (length < from + 2 * patterns)
         return BALEHASP_REFUSED_CUT;
-    if (length > from + 2 * patterns)
+    *asked = (Asked){functions, patterns, from + 2 * patterns};
+    return 0;
+}
+
+/* The answered listing into `out`, which is long enough, and its length; or the refusal. */
+static uint16_t model_listing(const uint8_t *in, size_t length, size_t room, uint8_t *out, size_t *written)
+{
+    Asked asked = {0, 0, 0};
+    uint16_t refusal = model_sections(in, length, &asked);
+    *written = 0;
+    if (refusal)
+        return refusal;
+    if (length > asked.end)
         return BALEHASP_REFUSED_AFTER;
-    if (room < length + 2 + 2 * functions * patterns)
+    if (room < length + 2 + 2 * asked.functions * asked.patterns)
         return BALEHASP_REFUSED_OUTPUT;
     memcpy(out, in, length);
-    size_t at = put(out, length, (uint16_t)(functions * patterns));
-    for (size_t i = 0; i < functions; i++)
-        for (size_t j = 0; j < patterns; j++)
-            at = put(out, at, answers[number_at(in, 2 + 2 * i) - 1][number_at(in, from + 2 * j)]);
+    size_t at = put(out, length, (uint16_t)(asked.functions * asked.patterns));
+    for (size_t i = 0; i < asked.functions; i++)
+        for (size_t j = 0; j < asked.patterns; j++)
+            at = put(out, at, answers[number_at(in, 2 + 2 * i) - 1][number_at(in, 4 + 2 * (asked.functions + j))]);
     *written = at;
     return 0;
 }
@@ -405,9 +421,8 @@ static void misused_listing(const uint8_t *input, size_t length, uint8_t *output
     expect(balehasp_listing(input, length, output, room, &written) == BALEHASP_MISUSED && written == 0, "a listing that cannot be made", length, room);
 }
 
-static size_t some_listing(uint8_t *bytes)
+static size_t listing_of(uint8_t *bytes, size_t functions, size_t patterns)
 {
-    size_t functions = (size_t)(1 + below(10)), patterns = (size_t)(below(100) ? below(24) : below(1025));
     size_t at = put(bytes, 0, (uint16_t)functions);
     for (size_t i = 0; i < functions; i++)
         at = put(bytes, at, (uint16_t)(1 + below(FUNCTIONS)));
@@ -415,6 +430,12 @@ static size_t some_listing(uint8_t *bytes)
     for (size_t i = 0; i < patterns; i++)
         at = put(bytes, at, (uint16_t)noise());
     return at;
+}
+
+static size_t some_listing(uint8_t *bytes)
+{
+    size_t functions = (size_t)(1 + below(10)), patterns = (size_t)(below(100) ? below(24) : below(1025));
+    return listing_of(bytes, functions, patterns);
 }
 
 /* The same, with damage: cut short, lengthened, a bit turned over, a count or a function number changed. */
@@ -468,6 +489,350 @@ static void listings(void)
     }
     printf("%u random and damaged listings as the model's, %u of them overlapping; refused by 1, 2, 4, 5, 6: %u, %u, %u, %u, %u\n",
            rounds, overlaps, refusals[1], refusals[2], refusals[4], refusals[5], refusals[6]);
+}
+
+/* ---- the differences of two answered listings */
+
+typedef struct {
+    uint8_t bytes[BALEHASP_LONGEST_ANSWERED + 64];
+    size_t length;
+} Answered;
+
+static Answered pair[2];
+
+/* All three sections of an answered listing: what it asks, or the first refusal. */
+static uint16_t model_answered(const Answered *listing, Asked *asked)
+{
+    uint16_t refusal = model_sections(listing->bytes, listing->length, asked);
+    if (refusal)
+        return refusal;
+    size_t from = asked->end + 2, count = asked->functions * asked->patterns;
+    if (listing->length < from)
+        return BALEHASP_REFUSED_CUT;
+    if (number_at(listing->bytes, asked->end) != count)
+        return BALEHASP_REFUSED_COUNT;
+    if (listing->length < from + 2 * count)
+        return BALEHASP_REFUSED_CUT;
+    return listing->length > from + 2 * count ? BALEHASP_REFUSED_AFTER : 0;
+}
+
+/* The pair's least difference at or after `from`, or the number of answers; or the refusal. */
+static uint16_t model_difference(size_t from, size_t *least)
+{
+    Asked asked[2] = {{0, 0, 0}, {0, 0, 0}};
+    for (int i = 0; i < 2; i++) {
+        uint16_t refusal = model_answered(&pair[i], &asked[i]);
+        if (refusal)
+            return refusal;
+    }
+    size_t end = asked[0].end, count = asked[0].functions * asked[0].patterns;
+    if (end != asked[1].end || memcmp(pair[0].bytes, pair[1].bytes, end) != 0)
+        return BALEHASP_REFUSED_DIFFERENT;
+    *least = count;
+    for (size_t k = count; k > from; k--)
+        if (number_at(pair[0].bytes, end + 2 * k) != number_at(pair[1].bytes, end + 2 * k))
+            *least = k - 1;
+    return 0;
+}
+
+/* The pair compared, each listing in a buffer of its own. */
+static uint16_t one_difference(size_t from)
+{
+    static Guarded small[2], large[2];
+    Guarded *used[2];
+    const uint8_t *at[2];
+    for (int i = 0; i < 2; i++) {
+        if (!small[i].bytes) {
+            small[i] = guarded(4096);
+            large[i] = guarded(32768);
+        }
+        size_t length = pair[i].length;
+        used[i] = length + 64 <= small[i].size ? &small[i] : &large[i];
+        uint8_t *bytes = place(used[i], length, below(2));
+        memcpy(bytes, pair[i].bytes, length);
+        keep(used[i]);
+        at[i] = length ? bytes : (const uint8_t *)nowhere((const uint16_t *)(const void *)used[i]->bytes);
+    }
+    size_t poison = (size_t)noise(), found = poison, wanted = poison, *found_place = perhaps(&found);
+    uint16_t refusal = model_difference(from, &wanted);
+    uint16_t said = balehasp_difference(at[0], pair[0].length, at[1], pair[1].length, from, found_place);
+    expect(said == refusal, "a comparison's refusal", said, refusal);
+    expect(found == (found_place ? wanted : poison), "the place of a difference", found, wanted);
+    for (int i = 0; i < 2; i++)
+        expect_same(used[i], "a comparison changes a listing", (uint64_t)i, from);
+    return refusal;
+}
+
+static void copy_first(void)
+{
+    memcpy(pair[1].bytes, pair[0].bytes, pair[0].length);
+    pair[1].length = pair[0].length;
+}
+
+/* A listing answered twice, with some answers of the second changed, most of them by one bit. Returns how many answers there
+ * are. */
+static size_t some_pair(const uint8_t *bytes, size_t length)
+{
+    model_listing(bytes, length, SIZE_MAX, pair[0].bytes, &pair[0].length);
+    copy_first();
+    size_t count = (pair[0].length - length) / 2 - 1;
+    for (size_t left = count == 0 ? 0 : (size_t)(below(4) ? below(4) : below(count + 1)); left > 0; left--) {
+        uint8_t *answer = pair[1].bytes + length + 2 + 2 * (size_t)below(count);
+        if (below(4))
+            answer[below(2)] ^= (uint8_t)(1 << below(8));
+        else
+            put(answer, 0, (uint16_t)noise());
+    }
+    return count;
+}
+
+/* Damage to a sound answered listing: as to any listing, to the third section, or to what it asks, where it stays sound. */
+static void damage_answered(Answered *listing)
+{
+    Asked asked = {0, 0, 0};
+    expect(model_answered(listing, &asked) == 0, "damage to what is not sound", listing->length, 0);
+    uint8_t *bytes = listing->bytes, *patterns = bytes + 4 + 2 * asked.functions;
+    size_t count = asked.functions * asked.patterns;
+    switch (below(8)) {
+    case 0: put(bytes, asked.end, (uint16_t)(below(2) ? count + below(3) - 1 : noise())); break;
+    case 1: listing->length = asked.end + (size_t)below(4); break;
+    case 2: put(bytes, 2 + 2 * (size_t)below(asked.functions), (uint16_t)(1 + below(FUNCTIONS))); break;
+    case 3: /* two patterns exchanged */
+        if (asked.patterns > 0) {
+            size_t i = 2 * (size_t)below(asked.patterns), j = 2 * (size_t)below(asked.patterns);
+            uint16_t kept = number_at(patterns, i);
+            put(patterns, i, number_at(patterns, j));
+            put(patterns, j, kept);
+        }
+        break;
+    case 4: /* a pattern less, with as many answers as that asks for */
+        if (asked.patterns > 0) {
+            put(bytes, 2 + 2 * asked.functions, (uint16_t)(asked.patterns - 1));
+            put(bytes, asked.end - 2, (uint16_t)(count - asked.functions));
+            listing->length -= 2 + 2 * asked.functions;
+        }
+        break;
+    default: listing->length = damage(bytes, listing->length);
+    }
+}
+
+/* Places around those of the answers, and so large that twice the place, or its low half, is small again. */
+static size_t some_from(size_t count)
+{
+    switch (below(8)) {
+    case 0: return 0;
+    case 1: return count + (size_t)below(3) - 1;
+    case 2: return SIZE_MAX - (size_t)below(3);
+    case 3: return SIZE_MAX / 2 + 1 + (size_t)below(count + 1) - (size_t)below(32);
+    case 4: return (size_t)((uint64_t)1 << (below(2) ? 16 : 32)) + (size_t)below(count + 1);
+    default: return (size_t)below(count + 1);
+    }
+}
+
+/* The walk that the header describes, beside every place of the pair. Returns how many differences it finds. */
+static unsigned walk(void)
+{
+    Asked asked = {0, 0, 0};
+    size_t count = 0, at = 0;
+    unsigned found = 0;
+    expect(model_answered(&pair[0], &asked) == 0, "a walk over what is refused", 0, 0);
+    expect(balehasp_difference(pair[0].bytes, pair[0].length, pair[1].bytes, pair[1].length, SIZE_MAX, &count) == 0
+               && count == asked.functions * asked.patterns, "the number of answers", count, 0);
+    for (size_t k = 0; k <= count; k++) {
+        size_t answer = 6 + 2 * (asked.functions + asked.patterns + k);
+        if (k == count || number_at(pair[0].bytes, answer) != number_at(pair[1].bytes, answer)) {
+            expect(balehasp_difference(pair[0].bytes, pair[0].length, pair[1].bytes, pair[1].length, at, &at) == 0 && at == k, "a step of a walk", at, k);
+            found += at++ < count;
+        }
+    }
+    return found;
+}
+
+/* The whole case of document 01, answered, with the fault that has this number, or with none. */
+static void whole_case(Answered *listing, uint16_t fault)
+{
+    static const uint8_t sound[] = {1, 0, 2, 0, 2, 0, 0x00, 0x40, 0x00, 0x80, 2, 0, 0x00, 0x50, 0x00, 0x80};
+    memcpy(listing->bytes, sound, sizeof sound);
+    listing->length = sizeof sound - (fault == BALEHASP_REFUSED_CUT) + (fault == BALEHASP_REFUSED_AFTER);
+    listing->bytes[sizeof sound] = 0;
+    if (fault == BALEHASP_REFUSED_FUNCTION)
+        listing->bytes[2] = 11;
+    if (fault == BALEHASP_REFUSED_LIMITS)
+        listing->bytes[0] = 0;
+    if (fault == BALEHASP_REFUSED_COUNT)
+        listing->bytes[10] = 3;
+}
+
+/* Each fault in the first with each in the second: the first's goes first, and 8 comes last. */
+static void order_of_refusals(void)
+{
+    static const uint16_t faults[] = {0, 1, 4, 5, 6, 7};
+    for (int i = 0; i < 6; i++)
+        for (int j = 0; j < 6; j++)
+            for (int different = 0; different < 2; different++) {
+                whole_case(&pair[0], faults[i]);
+                whole_case(&pair[1], faults[j]);
+                pair[1].bytes[6] ^= (uint8_t)different;
+                uint16_t wanted = faults[i] ? faults[i] : faults[j] ? faults[j] : different ? 8 : 0;
+                expect(one_difference((size_t)below(4)) == wanted, "the order of a comparison's refusals", faults[i], faults[j]);
+            }
+    for (int i = 0; i < 2; i++) { /* within the third section */
+        whole_case(&pair[1 - i], 0);
+        for (size_t length = 0; length < 16; length++) {
+            whole_case(&pair[i], 0);
+            pair[i].length = length;
+            expect(one_difference(0) == 4, "an answered listing that is cut short", (uint64_t)i, length);
+            whole_case(&pair[i], 7);
+            pair[i].length = length;
+            expect(one_difference(0) == (length < 12 ? 4 : 7), "7 comes before missing answers", (uint64_t)i, length);
+        }
+        whole_case(&pair[i], 7);
+        for (pair[i].length = 16; pair[i].length < 20; pair[i].length++)
+            expect(one_difference(0) == 7, "7 comes before 6", (uint64_t)i, pair[i].length);
+    }
+}
+
+/* An answered listing in which every number but the counts is 1. */
+static void all_ones(Answered *listing, size_t functions, size_t patterns)
+{
+    size_t counts[] = {functions, patterns, functions * patterns}, at = 0;
+    for (int i = 0; i < 3; i++) {
+        at = put(listing->bytes, at, (uint16_t)counts[i]);
+        for (size_t k = 0; k < counts[i]; k++)
+            at = put(listing->bytes, at, 1);
+    }
+    listing->length = at;
+}
+
+/* Listings that differ in their counts alone, two functions and three patterns beside three and two among them. */
+static void counts_that_differ(void)
+{
+    for (size_t f = 1; f <= FUNCTIONS; f++)
+        for (size_t n = 0; n < 10; n++) {
+            all_ones(&pair[0], f, n);
+            for (size_t g = 1; g <= FUNCTIONS; g++)
+                for (size_t m = 0; m < 10; m++) {
+                    all_ones(&pair[1], g, m);
+                    expect(one_difference(0) == (f == g && n == m ? 0 : BALEHASP_REFUSED_DIFFERENT), "counts that differ", 10 * f + n, 10 * g + m);
+                }
+        }
+}
+
+/* The longest answered listing, with a difference at its last place and with none. */
+static void longest_pair(void)
+{
+    uint8_t bytes[BALEHASP_LONGEST_LISTING];
+    size_t count = some_pair(bytes, listing_of(bytes, FUNCTIONS, 1024)), last = BALEHASP_LONGEST_ANSWERED - 1, found = 0;
+    copy_first();
+    expect(pair[0].length == BALEHASP_LONGEST_ANSWERED, "the length of the longest answered listing", pair[0].length, 0);
+    for (int differ = 0; differ < 2; differ++) {
+        pair[1].bytes[last] ^= (uint8_t)(differ << 7);
+        for (size_t from = count - 2; from < count + 3; from++)
+            expect(one_difference(from) == 0, "the longest answered listing", from, 0);
+        expect(walk() == (unsigned)differ, "the differences of the longest answered listing", 0, 0);
+        for (int i = 0; i < 2; i++) {
+            pair[i].length++;
+            expect(one_difference(0) == BALEHASP_REFUSED_AFTER, "a byte after the longest answered listing", (uint64_t)i, 0);
+            pair[i].length--;
+        }
+    }
+    expect(balehasp_difference(pair[0].bytes, pair[0].length, pair[1].bytes, pair[1].length, 0, &found) == 0 && found == count - 1, "the last place", found, count);
+    puts("the longest answered listing: a difference at its last place found, a byte more refused");
+}
+
+/* Listings that share bytes: one with itself, and two that lie one number apart. */
+static void listings_that_overlap(void)
+{
+    static const uint8_t ones[] = {1, 0, 1, 0, 1, 0, 1, 0, 1, 0, 1, 0, 2, 0};
+    size_t found = 7;
+    expect(balehasp_difference(ones, 12, ones, 12, 0, &found) == 0 && found == 1, "a listing beside itself", found, 0);
+    expect(balehasp_difference(ones, 12, ones + 2, 12, 0, &found) == 0 && found == 0, "a listing that begins in the other", found, 0);
+    expect(balehasp_difference(ones + 2, 12, ones, 12, 1, &found) == 0 && found == 1, "and after its difference", found, 0);
+    expect(balehasp_difference(ones, 12, ones, 11, 0, &found) == BALEHASP_REFUSED_CUT && found == 1, "one cut short, in one place", found, 0);
+}
+
+static void misused_difference(const uint8_t *first, size_t first_length, const uint8_t *second, size_t second_length)
+{
+    size_t found = 7;
+    expect(balehasp_difference(first, first_length, second, second_length, 0, &found) == BALEHASP_MISUSED && found == 7, "a comparison that cannot be made", first_length, second_length);
+    expect(balehasp_difference(first, first_length, second, second_length, 0, NULL) == BALEHASP_MISUSED, "the same without a place", first_length, second_length);
+}
+
+/* Null pointers, lengths that nothing can have, and a place for the result at every byte in and around the listings. Returns
+ * how many cannot be made. */
+static unsigned misused_differences(void)
+{
+    unsigned count = 0;
+    whole_case(&pair[0], 0);
+    const uint8_t *bytes = pair[0].bytes;
+    const struct {
+        const uint8_t *at;
+        size_t length;
+    } wrong[] = {{NULL, 1}, {NULL, 16}, {bytes, SIZE_MAX}, {bytes, (size_t)PTRDIFF_MAX + 1}, {(const uint8_t *)UINTPTR_MAX, 1}};
+    for (size_t i = 0; i < sizeof wrong / sizeof *wrong; i++, count += 3) {
+        misused_difference(wrong[i].at, wrong[i].length, bytes, 16);
+        misused_difference(bytes, 16, wrong[i].at, wrong[i].length);
+        misused_difference(wrong[i].at, wrong[i].length, wrong[i].at, wrong[i].length);
+    }
+    static Guarded around;
+    around = guarded(4096);
+    size_t size = sizeof(size_t), wanted = 2;
+    for (size_t offset = 0; offset <= 16 + size; offset++) {
+        uint8_t *listing = place(&around, 64, true) + size;
+        memcpy(listing, bytes, 16);
+        size_t *result = (size_t *)(void *)(listing - size + offset);
+        bool apart = offset == 0 || offset == 16 + size;
+        keep(&around);
+        if (apart)
+            memcpy(around.before + ((uint8_t *)result - around.bytes), &wanted, size);
+        else
+            count += 3;
+        expect(balehasp_difference(listing, 16, bytes, 16, 0, result) == (apart ? 0 : BALEHASP_MISUSED), "a place in the first listing", offset, 0);
+        expect(balehasp_difference(bytes, 16, listing, 16, 0, result) == (apart ? 0 : BALEHASP_MISUSED), "a place in the second listing", offset, 0);
+        expect(balehasp_difference(listing, 16, listing, 16, 0, result) == (apart ? 0 : BALEHASP_MISUSED), "a place in both listings", offset, 0);
+        expect_same(&around, "a place in or beside a listing", offset, 0);
+        expect(balehasp_difference(listing, 0, bytes, 0, 0, result) == BALEHASP_REFUSED_CUT, "no listing has no place in it", offset, 0);
+    }
+    return count;
+}
+
+static void differences(void)
+{
+    static uint8_t bytes[BALEHASP_LONGEST_LISTING];
+    whole_case(&pair[0], 0);
+    for (unsigned changed = 0; changed < 16; changed++) { /* in each byte of the two answers, or in none */
+        whole_case(&pair[1], 0);
+        for (int byte = 0; byte < 4; byte++)
+            pair[1].bytes[12 + byte] ^= (uint8_t)((changed >> byte & 1) << below(8));
+        for (size_t from = 0; from < 5; from++)
+            expect(one_difference(from) == 0, "the whole case, answered", changed, from);
+        expect(walk() == (unsigned)((changed & 3) != 0) + (changed >> 2 != 0), "how many differences", changed, 0);
+    }
+    order_of_refusals();
+    counts_that_differ();
+    longest_pair();
+    listings_that_overlap();
+    printf("%u comparisons that cannot be made: told, nothing written\n", misused_differences());
+
+    unsigned refusals[9] = {0}, found = 0, walks = 0;
+    for (unsigned i = 0; i < rounds; i++) {
+        size_t count = some_pair(bytes, some_listing(bytes));
+        if (below(2)) {
+            uint64_t which = below(5); /* the first, the second, or both */
+            if (which != 1 && which != 3)
+                damage_answered(&pair[0]);
+            if (which != 0 && which != 2)
+                damage_answered(&pair[1]);
+        }
+        uint16_t refusal = one_difference(some_from(count));
+        refusals[refusal]++;
+        if (refusal == 0 && below(8) == 0) {
+            found += walk();
+            walks++;
+        }
+    }
+    printf("%u pairs of answered listings as the model's, %u differences in %u walks; refused by 1, 4, 5, 6, 7, 8: %u, %u, %u, %u, %u, %u\n",
+           rounds, found, walks, refusals[1], refusals[4], refusals[5], refusals[6], refusals[7], refusals[8]);
 }
 
 /* ---- reals and spans */
@@ -577,6 +942,7 @@ int main(int words, char **word)
     each_function();
     batches();
     listings();
+    differences();
     reals();
     puts("outside: all passed");
     return 0;

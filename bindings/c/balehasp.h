@@ -1,4 +1,5 @@
-/* balehasp: ten functions of 16-bit posits with one exponent bit, with a batch, a listing, conversions with double, and spans.
+/* balehasp: ten functions of 16-bit posits with one exponent bit, with a batch, a listing, the differences of two answered
+ * listings, conversions with double, and spans.
  *
  * A posit is passed as its pattern, a uint16_t. 0x0000 is zero and 0x8000 is NaR ("not a real"). NaR is an answer and not an
  * error: ln of a negative number is NaR, and a call that answers it has succeeded.
@@ -20,9 +21,9 @@
 #include <string.h>
 
 #define BALEHASP_VERSION_MAJOR 0
-#define BALEHASP_VERSION_MINOR 2
+#define BALEHASP_VERSION_MINOR 3
 #define BALEHASP_VERSION_PATCH 0
-#define BALEHASP_VERSION "0.2.0"
+#define BALEHASP_VERSION "0.3.0"
 
 /* Has the compiler warn where a result is dropped. */
 #if (defined __cplusplus && __cplusplus >= 201703L) || (defined __STDC_VERSION__ && __STDC_VERSION__ > 201710L)
@@ -53,14 +54,16 @@ enum {
     BALEHASP_ACOS_PI = 10
 };
 
-/* The refusals' numbers. */
+/* The refusals' numbers. Each call names those that it gives; 7 and 8 are balehasp_difference's alone. */
 enum {
     BALEHASP_REFUSED_FUNCTION = 1, /* a function number outside 1 to 10 */
     BALEHASP_REFUSED_OUTPUT = 2,   /* the output is too short */
     BALEHASP_REFUSED_START = 3,    /* the start lies beyond the input */
     BALEHASP_REFUSED_CUT = 4,      /* a count or a section of a listing is cut short */
     BALEHASP_REFUSED_LIMITS = 5,   /* a count of a listing is outside its limits */
-    BALEHASP_REFUSED_AFTER = 6     /* bytes after a listing's patterns */
+    BALEHASP_REFUSED_AFTER = 6,    /* bytes after a listing's patterns, or after an answered one's answers */
+    BALEHASP_REFUSED_COUNT = 7,    /* the count of answers is not functions times patterns */
+    BALEHASP_REFUSED_DIFFERENT = 8 /* two listings ask different things */
 };
 
 /* No refusal, but a call that cannot be made: NULL with a length above 0, a pointer that is not aligned for its items, more
@@ -112,6 +115,23 @@ BALEHASP_MUST_USE uint16_t balehasp_listing(
     const uint8_t *input, size_t input_length,
     uint8_t *output, size_t output_length,
     size_t *written);
+
+/* Compares two answered listings, as balehasp_listing writes them, answer by answer. With F functions and N patterns there are
+ * F * N answers, at the places 0, 1, ..: place k is of function k / N and pattern k % N, both counted from 0, and its answer is
+ * the two bytes from 6 + 2 * (F + N + k) on. Writes to *place the least place, `from` or later, at which the two differ, and
+ * F * N where there is none, also where `from` is above F * N. Whether an answer is right is not asked.
+ * To find every difference start with `from` 0 and go on with *place + 1 until *place is F * N, which a call with `from`
+ * SIZE_MAX gives.
+ * Refusals, in this order: the first listing's, the second's, then 8, where the two ask different things: functions or patterns
+ * that differ in number, value or order. A listing's own are 4, 5 and 1 as its first two sections are read, as in
+ * balehasp_listing; then 4 where the count of answers is missing, 7 where it is not F * N, 4 where answers are missing, 6 for
+ * bytes after them. A refused call leaves *place as it was, which is stale then. What is longer than the longest answered
+ * listing, 22,554 bytes, is refused in any case.
+ * The two listings may overlap or be one. A place for the result that lies in either is BALEHASP_MISUSED. */
+BALEHASP_MUST_USE uint16_t balehasp_difference(
+    const uint8_t *first, size_t first_length,
+    const uint8_t *second, size_t second_length,
+    size_t from, size_t *place);
 
 /* Whether p is a real number; if so, writes to *real exactly that number, +0.0 for zero. NaR is no real number: then the result
  * is false and *real stays as it was, so whoever does not look at the result goes on with the number of the call before. */
@@ -232,6 +252,25 @@ BALEHASP_MUST_USE static inline uint16_t balehasp_listing_checked(
     return refusal;
 }
 
+/* Both listings are only read, so they may overlap. The next call reads them again, so the result is not written into them. */
+BALEHASP_MUST_USE static inline uint16_t balehasp_difference_checked(
+    const uint8_t *first, size_t first_length,
+    const uint8_t *second, size_t second_length,
+    size_t from, size_t *place)
+{
+    uint8_t no_bytes = 0;
+    uint16_t refusal = BALEHASP_MISUSED;
+    size_t found = 0, place_bytes = place ? sizeof *place : 0;
+    if (balehasp_can_lie(first, first_length, 1) && balehasp_can_lie(second, second_length, 1)
+        && !balehasp_overlap(place, place_bytes, first, first_length)
+        && !balehasp_overlap(place, place_bytes, second, second_length))
+        refusal = balehasp_difference(
+            first_length ? first : &no_bytes, first_length, second_length ? second : &no_bytes, second_length, from, &found);
+    if (refusal == 0)
+        balehasp_give(place, &found, sizeof found);
+    return refusal;
+}
+
 BALEHASP_MUST_USE static inline bool balehasp_to_f64_checked(uint16_t p, double *real)
 {
     double number = 0;
@@ -255,6 +294,7 @@ BALEHASP_MUST_USE static inline bool balehasp_span_checked(uint16_t p, double *l
 #define balehasp_answer balehasp_answer_checked
 #define balehasp_batch balehasp_batch_checked
 #define balehasp_listing balehasp_listing_checked
+#define balehasp_difference balehasp_difference_checked
 #define balehasp_to_f64 balehasp_to_f64_checked
 #define balehasp_span balehasp_span_checked
 

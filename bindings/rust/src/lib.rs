@@ -1,4 +1,5 @@
-//! Ten functions of 16-bit posits with one exponent bit, with a batch, a listing, conversions with `f64`, and spans.
+//! Ten functions of 16-bit posits with one exponent bit, with a batch, a listing, the differences of two answered listings,
+//! conversions with `f64`, and spans.
 //!
 //! A posit is passed as its pattern, a `u16`. `0x0000` is zero and [`NAR`] is NaR ("not a real"). NaR is an answer and not an
 //! error: `ln` of a negative number is NaR, and a call that answers it has succeeded. What a call can refuse is a [`Refusal`];
@@ -20,7 +21,7 @@
 #![no_std]
 #![warn(missing_docs)]
 
-use core::fmt;
+use core::{fmt, iter};
 
 /// The version, which is also the header's.
 ///
@@ -51,7 +52,8 @@ pub const LONGEST_LISTING: usize = 2072;
 /// ```
 pub const LONGEST_ANSWERED: usize = 22554;
 
-/// Why a call was refused, with the refusals' numbers.
+/// Why a call was refused, with the refusals' numbers. Each call names those that it gives; `Count` and `Different` come from
+/// [`difference`] and [`differences`] alone.
 ///
 /// ```
 /// use balehasp::Refusal;
@@ -73,8 +75,12 @@ pub enum Refusal {
     Cut = 4,
     /// A count of a listing is outside its limits.
     Limits = 5,
-    /// Bytes after a listing's patterns.
+    /// Bytes after a listing's patterns, or after an answered one's answers.
     After = 6,
+    /// The count of answers is not functions times patterns.
+    Count = 7,
+    /// Two listings ask different things.
+    Different = 8,
 }
 
 impl Refusal {
@@ -96,7 +102,9 @@ impl Refusal {
             3 => Err(Refusal::Start),
             4 => Err(Refusal::Cut),
             5 => Err(Refusal::Limits),
-            _ => Err(Refusal::After), // 6: there are no others
+            6 => Err(Refusal::After),
+            7 => Err(Refusal::Count),
+            _ => Err(Refusal::Different), // 8: there are no others
         }
     }
 }
@@ -109,7 +117,9 @@ impl fmt::Display for Refusal {
             Refusal::Start => "the start lies beyond the input",
             Refusal::Cut => "a count or a section of a listing is cut short",
             Refusal::Limits => "a count of a listing is outside its limits",
-            Refusal::After => "bytes after a listing's patterns",
+            Refusal::After => "bytes after a listing's patterns, or after an answered one's answers",
+            Refusal::Count => "the count of answers is not functions times patterns",
+            Refusal::Different => "two listings ask different things",
         })
     }
 }
@@ -232,6 +242,14 @@ extern "C" {
         output_length: usize,
         written: *mut usize,
     ) -> u16;
+    fn balehasp_difference(
+        first: *const u8,
+        first_length: usize,
+        second: *const u8,
+        second_length: usize,
+        from: usize,
+        place: *mut usize,
+    ) -> u16;
     fn balehasp_to_f64(p: u16, real: *mut f64) -> bool;
     fn balehasp_from_f64(x: f64) -> u16;
     fn balehasp_span(p: u16, lower: *mut f64, upper: *mut f64) -> bool;
@@ -334,6 +352,67 @@ pub fn listing(input: &[u8], output: &mut [u8]) -> Result<usize, Refusal> {
     let refusal =
         unsafe { balehasp_listing(input.as_ptr(), input.len(), output.as_mut_ptr(), output.len(), &mut written) };
     Refusal::unless(refusal, written)
+}
+
+// The entry's place: of the least difference, `from` or later, or the number of answers where there is none.
+fn difference_or_end(first: &[u8], second: &[u8], from: usize) -> Result<usize, Refusal> {
+    let mut place = 0;
+    // SAFETY: as in `batch_by_number`; the listings are only read, so they may overlap.
+    let refusal =
+        unsafe { balehasp_difference(first.as_ptr(), first.len(), second.as_ptr(), second.len(), from, &mut place) };
+    Refusal::unless(refusal, place)
+}
+
+/// The least place, `from` or later, at which the answers of two answered listings differ; `None` where there is none, also
+/// where `from` lies beyond the answers.
+///
+/// Both are laid out as [`listing`] writes them. With F functions and N patterns there are F·N answers, at the places 0, 1, ..:
+/// place k is of function k / N and pattern k % N, both counted from 0, and its answer is the two bytes from 6 + 2·(F + N + k)
+/// on. Whether an answer is right is not asked. What is longer than [`LONGEST_ANSWERED`] is refused in any case.
+///
+/// Refused, in this order: for the first listing, for the second, then `Different`, where functions or patterns differ in
+/// number, value or order. For a listing itself: `Cut`, `Limits` and `Function` as its first two sections are read, as by
+/// [`listing`]; then `Cut` where the count of answers is missing, `Count` where it is not F·N, `Cut` where answers are missing,
+/// `After` for bytes after them.
+///
+/// ```
+/// use balehasp::{difference, Refusal};
+/// let first = [1, 0, 2, 0, 2, 0, 0x00, 0x40, 0x00, 0x80, 2, 0, 0x00, 0x50, 0x00, 0x80];
+/// let mut second = first;
+/// assert_eq!(difference(&first, &second, 0), Ok(None));
+/// second[14] = 0x01;
+/// assert_eq!(difference(&first, &second, 0), Ok(Some(1)));
+/// assert_eq!(difference(&first, &second, 2), Ok(None));
+/// assert_eq!(difference(&first, &second[..15], 0), Err(Refusal::Cut));
+/// second[10] = 3;
+/// assert_eq!(difference(&first, &second, 0), Err(Refusal::Count));
+/// ```
+#[must_use = "a refused comparison finds nothing"]
+pub fn difference(first: &[u8], second: &[u8], from: usize) -> Result<Option<usize>, Refusal> {
+    let answers = difference_or_end(first, second, usize::MAX)?;
+    let place = difference_or_end(first, second, from)?;
+    Ok((place < answers).then_some(place))
+}
+
+/// Every place at which the answers of two answered listings differ, from the least on. Places and refusals are those of
+/// [`difference`].
+///
+/// ```
+/// use balehasp::{differences, Refusal};
+/// let first = [1, 0, 2, 0, 2, 0, 0x00, 0x40, 0x00, 0x80, 2, 0, 0x00, 0x50, 0x00, 0x80];
+/// let mut second = first;
+/// second[13] = 0x51;
+/// second[14] = 0x01;
+/// assert!(differences(&first, &second)?.eq([0, 1]));
+/// second[6] = 0x01;
+/// assert_eq!(differences(&first, &second).err(), Some(Refusal::Different));
+/// # Ok::<(), Refusal>(())
+/// ```
+#[must_use = "a refused comparison finds nothing"]
+pub fn differences<'a>(first: &'a [u8], second: &'a [u8]) -> Result<impl Iterator<Item = usize> + 'a, Refusal> {
+    let answers = difference_or_end(first, second, usize::MAX)?;
+    let next = move |from| difference_or_end(first, second, from).ok().filter(|&place| place < answers);
+    Ok(iter::successors(next(0), move |place| next(place + 1)))
 }
 
 /// A pattern's number.

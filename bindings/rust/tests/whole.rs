@@ -2,11 +2,13 @@
 //!
 //! The answers are what oracle/record writes; BALEHASP_ANSWERS names the file where it is not in its place in the tree.
 use balehasp::{
-    acos_pi, answer, answer_by_number, asin_pi, atan_pi, batch, batch_by_number, cos_pi, exp, exp2, from_f64, listing, ln,
-    log2, sin_pi, span, tan_pi, to_f64, Batched, Function, Real, Refusal, Span, LONGEST_ANSWERED, LONGEST_LISTING, NAR,
+    acos_pi, answer, answer_by_number, asin_pi, atan_pi, batch, batch_by_number, cos_pi, difference, differences, exp, exp2,
+    from_f64, listing, ln, log2, sin_pi, span, tan_pi, to_f64, Batched, Function, Real, Refusal, Span, LONGEST_ANSWERED,
+    LONGEST_LISTING, NAR,
 };
 
 const ROUNDS: usize = 100_000;
+const PAIRS: usize = 50_000;
 
 type Call = fn(u16) -> u16;
 
@@ -106,7 +108,16 @@ fn unknown_function_numbers() {
 
 #[test]
 fn refusals_have_their_numbers_and_words() {
-    let all = [Refusal::Function, Refusal::Output, Refusal::Start, Refusal::Cut, Refusal::Limits, Refusal::After];
+    let all = [
+        Refusal::Function,
+        Refusal::Output,
+        Refusal::Start,
+        Refusal::Cut,
+        Refusal::Limits,
+        Refusal::After,
+        Refusal::Count,
+        Refusal::Different,
+    ];
     for (number, refusal) in (1..).zip(all) {
         assert_eq!(refusal.number(), number);
         let error: Box<dyn std::error::Error> = Box::new(refusal);
@@ -177,12 +188,20 @@ fn model_section(bytes: &[u8], least: usize, most: usize) -> Result<(Vec<u16>, &
     Ok(((0..count).map(|place| number_at(numbers, 2 * place)).collect(), rest))
 }
 
-fn model_listing(answers: &Answers, input: &[u8], room: usize) -> Result<Vec<u8>, Refusal> {
+/// What a listing asks, functions and patterns, and the bytes after it.
+type Asked = (Vec<u16>, Vec<u16>);
+
+fn model_sections(input: &[u8]) -> Result<(Asked, &[u8]), Refusal> {
     let (functions, rest) = model_section(input, 1, 10)?;
     if functions.iter().any(|function| !(1..=10).contains(function)) {
         return Err(Refusal::Function);
     }
     let (patterns, rest) = model_section(rest, 0, 1024)?;
+    Ok(((functions, patterns), rest))
+}
+
+fn model_listing(answers: &Answers, input: &[u8], room: usize) -> Result<Vec<u8>, Refusal> {
+    let ((functions, patterns), rest) = model_sections(input)?;
     if !rest.is_empty() {
         return Err(Refusal::After);
     }
@@ -252,6 +271,106 @@ fn the_longest_listing() {
     assert_eq!(one_listing(&answers, &mut noise, &bytes, LONGEST_ANSWERED - 1), Err(Refusal::Output));
     bytes.push(0);
     assert_eq!(one_listing(&answers, &mut noise, &bytes, LONGEST_ANSWERED), Err(Refusal::After));
+}
+
+/// What an answered listing asks, and its answers. One count of answers alone is within limits; another is `Count`.
+fn model_answered(input: &[u8]) -> Result<(Asked, Vec<u16>), Refusal> {
+    let (asked, rest) = model_sections(input)?;
+    let count = asked.0.len() * asked.1.len();
+    let (answers, rest) = model_section(rest, count, count).map_err(|refusal| match refusal {
+        Refusal::Limits => Refusal::Count,
+        other => other,
+    })?;
+    if !rest.is_empty() {
+        return Err(Refusal::After);
+    }
+    Ok((asked, answers))
+}
+
+/// Every place at which two answered listings differ.
+fn model_differences(first: &[u8], second: &[u8]) -> Result<Vec<usize>, Refusal> {
+    let ((asked, answers), (also_asked, others)) = (model_answered(first)?, model_answered(second)?);
+    if asked != also_asked {
+        return Err(Refusal::Different);
+    }
+    Ok((0..answers.len()).filter(|&place| answers[place] != others[place]).collect())
+}
+
+/// Damage to an answered listing of so many functions and patterns, which stays sound now and then and asks something else.
+fn damage_answered(noise: &mut Noise, bytes: &mut Vec<u8>, functions: usize, patterns: usize) {
+    let (pattern, end) = (4 + 2 * functions, 4 + 2 * (functions + patterns));
+    match noise.below(9) {
+        0 => bytes.truncate(noise.below(bytes.len())),
+        1 => bytes.truncate(end + noise.below(4)),
+        2 => bytes.extend([7; 3].iter().take(1 + noise.below(3))),
+        3 => bytes[noise.below(2)] = noise.next() as u8,
+        4 => bytes[pattern - 1] = 4 + noise.next() as u8 % 4,
+        5 => bytes[end + noise.below(2)] ^= 1 << noise.below(8),
+        6 => bytes[2 + 2 * noise.below(functions)] = noise.below(12) as u8,
+        7 if patterns > 0 => {
+            let (one, other) = (pattern + 2 * noise.below(patterns), pattern + 2 * noise.below(patterns));
+            for byte in 0..2 {
+                bytes.swap(one + byte, other + byte);
+            }
+        }
+        _ => bytes[2 + noise.below(end - 2)] ^= 1 << noise.below(8),
+    }
+}
+
+/// A pair compared from places around the answers and far beyond them, and every difference of it, as the model has them.
+fn one_pair(noise: &mut Noise, first: &[u8], second: &[u8], count: usize) -> Result<usize, Refusal> {
+    let right = model_differences(first, second);
+    let inside = noise.below(count + 1);
+    for from in [0, inside, count.wrapping_sub(1), count, usize::MAX / 2 + 1 + inside, usize::MAX] {
+        let least = right.clone().map(|places| places.into_iter().find(|&place| place >= from));
+        assert_eq!(difference(first, second, from), least, "{first:x?} and {second:x?} from {from}");
+    }
+    assert_eq!(differences(first, second).map(Iterator::collect), right, "{first:x?} and {second:x?}");
+    right.map(|places| places.len())
+}
+
+#[test]
+fn pairs_of_answered_listings() {
+    let answers = Answers::read();
+    let mut noise = Noise(5);
+    let (mut given, mut found) = ([0; 9], 0);
+    for _ in 0..PAIRS {
+        let (functions, patterns) = (1 + noise.below(10), noise.below(12));
+        let (count, input) = (functions * patterns, some_listing(&mut noise, functions, patterns));
+        let mut pair = [(); 2].map(|()| model_listing(&answers, &input, LONGEST_ANSWERED).unwrap());
+        for _ in 0..noise.below(5).min(count) {
+            pair[1][input.len() + 2 + noise.below(2 * count)] ^= 1 << noise.below(8);
+        }
+        for bytes in &mut pair {
+            if noise.below(3) == 0 {
+                damage_answered(&mut noise, bytes, functions, patterns);
+            }
+        }
+        let outcome = one_pair(&mut noise, &pair[0], &pair[1], count);
+        given[outcome.map_or_else(|refusal| usize::from(refusal.number()), |_| 0)] += 1;
+        found += outcome.unwrap_or(0);
+    }
+    assert!((0..9).all(|number| (number == 2 || number == 3) == (given[number] <= PAIRS / 100)), "{given:?}");
+    println!("{PAIRS} pairs of answered listings as the model's, {found} differences; answered, refused by 1 to 8: {given:?}");
+}
+
+#[test]
+fn the_longest_answered_listing() {
+    let answers = Answers::read();
+    let mut noise = Noise(6);
+    let input = some_listing(&mut noise, 10, 1024);
+    let first = model_listing(&answers, &input, LONGEST_ANSWERED).unwrap();
+    let mut second = first.clone();
+    assert_eq!(first.len(), LONGEST_ANSWERED);
+    assert_eq!(one_pair(&mut noise, &first, &second, 10240), Ok(0));
+    second[LONGEST_ANSWERED - 1] ^= 0x80;
+    assert_eq!(difference(&first, &second, 0), Ok(Some(10239)));
+    for answer in second[input.len() + 2..].chunks_exact_mut(2) {
+        answer[0] ^= 1;
+    }
+    assert_eq!(one_pair(&mut noise, &first, &second, 10240), Ok(10240));
+    second.push(0);
+    assert_eq!(one_pair(&mut noise, &first, &second, 10240), Err(Refusal::After));
 }
 
 /// The number of the posit p of n bits with one exponent bit, neither zero nor NaR, read off its bits.

@@ -6,7 +6,8 @@ ghost use Rattle.p16e1.specs.Functions.{known, answerOf};
 ghost use Rattle.batch.specs.Batch.{batchedOf, outputOf};
 ghost use Rattle.listing.specs.Outcome.{listedOf};
 ghost use Rattle.listing.specs.Outcome as Listing;
-ghost use Rattle.refusals.specs.Refusals.{numberOf};
+ghost use Rattle.comparison.specs.Comparison.{differenceOf};
+ghost use Rattle.refusals.specs.Refusals.{numberOf, isNone};
 
 // 0 and the function's answer, or 1, the refusal of an unknown function, with the place as it was.
 #[no_mangle]
@@ -55,4 +56,26 @@ pub extern "C" fn balehasp_listing(input: &[u8], output: &mut [u8], written: &mu
     *written = l.written;
     let refusal = l.refusal;
     refusals::number(refusal)
+}
+
+// The refusal of two answered listings. The next place that differs is told where there is none, and the place is as it was where
+// there is one.
+#[no_mangle]
+pub extern "C" fn balehasp_difference(
+    first: &[u8],
+    second: &[u8],
+    from: usize,
+    place: &mut usize,
+) -> u16
+    ensures { λ r. ⌜ r ≡ numberOf (differenceOf (now (first .entry)) (now (second .entry)) from .refusal) ⌝ }
+    ensures { λ r. ⌜ now (place .exit) ≡ cond (isNone (differenceOf (now (first .entry)) (now (second .entry)) from .refusal)) (differenceOf (now (first .entry)) (now (second .entry)) from .place) (now (place .entry)) ⌝ }
+{
+    let found = comparison::difference(first, second, from);
+    let refusal = found.refusal;
+    let number = refusals::number(refusal);
+    if number != 0 {
+        return number;
+    }
+    *place = found.place;
+    0
 }

@@ -1,4 +1,4 @@
-// Standard input and output in blocks, for the programs. A read or a write that fails is told on standard error, in a line that
+// Standard input and output in blocks, and files, for the programs. A read or a write that fails is told on standard error, in a line that
 // begins `failed: ` and ends with the system's words.
 ghost use mathlib.Core.Path.{_≡_};
 ghost use lib.ListN.{length};
@@ -37,19 +37,65 @@ pub struct Block {
 pub fn read_block(block: &mut [u8]) -> Block
     ensures { λ r. ⌜ Counts (r .count) (now (block .exit)) ⌝ }
 {
+    let read = read_from(STDIN_FILENO, block);
+    if read.failed {
+        os::fail(b"failed: reading standard input");
+    }
+    read
+}
+
+// Reads the file that the program's word number `word` names into `block` until it is full, the file ends or a read fails. A file
+// that cannot be opened is told, and has failed.
+pub fn read_file(word: usize, block: &mut [u8]) -> Block
+    ensures { λ r. ⌜ Counts (r .count) (now (block .exit)) ⌝ }
+{
+    let mut name = io::buffer();
+    let n = os::arg(word, &mut name);
+    if os::errno() != 0 {
+        return not_read(b"the name of a file", block);
+    }
+    let fd = os::open_read(&name[..n]);
+    if fd < 0 {
+        return not_read(&name[..n], block);
+    }
+    let read = read_from(fd, block);
+    if read.failed {
+        tell(&name[..n]);
+    }
+    libc::close(fd);
+    read
+}
+
+// Nothing was read, for a reason that the system has.
+fn not_read(what: &[u8], block: &mut [u8]) -> Block
+    ensures { λ r. ⌜ Counts (r .count) (now (block .exit)) ⌝ }
+{
+    tell(what);
+    Block {
+        count: 0,
+        full: false,
+        failed: true,
+    }
+}
+
+// A failure in a line on standard error, with the system's words.
+fn tell(what: &[u8]) {
+    io::write_all(STDERR_FILENO, b"failed: ");
+    os::fail(what);
+}
+
+fn read_from(fd: i32, block: &mut [u8]) -> Block
+    ensures { λ r. ⌜ Counts (r .count) (now (block .exit)) ⌝ }
+{
     let mut count: usize = 0;
     while count < block.len() {
-        let got = libc::read(STDIN_FILENO, &mut block[count..]);
+        let got = libc::read(fd, &mut block[count..]);
         let more = io::count(got, &block[count..]);
         if more == 0 {
-            let failed = got < 0;
-            if failed {
-                os::fail(b"failed: reading standard input");
-            }
             return Block {
                 count,
                 full: false,
-                failed,
+                failed: got < 0,
             };
         }
         count += more;

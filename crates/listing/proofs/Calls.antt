@@ -10,7 +10,7 @@ use lib.Seq.{sets, take-add, take-all}
 use lib.Dec.{ltb}
 use Rattle.refusals.specs.declared.Refusal.{Refusal}
 use Rattle.refusals.specs.declared.Refusal.the-variants.{None, Output, After}
-use Rattle.numbers.specs.Numbers.{numberAt}
+use Rattle.words.specs.Numbers.{numberAt}
 use Rattle.refusals.specs.Refusals.{isNone, _before_, refusedWhen}
 use Rattle.sections.specs.Sections.{section, pastSection, functionsOf, patternsOf, pastPatterns}
 use Rattle.sections.specs.Order.{sectionsRefusal}

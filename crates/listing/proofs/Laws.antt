@@ -9,7 +9,7 @@ use native.Mathlib.Nat.{zero-add}
 use lib.ListN.{length, drop, length-append}
 use Rattle.refusals.specs.declared.Refusal.the-variants.{None}
 use Rattle.listing.specs.declared.Listed.{Listed}
-use Rattle.numbers.specs.Numbers.{numberAt}
+use Rattle.words.specs.Numbers.{numberAt}
 use Rattle.refusals.specs.Refusals.{isNone}
 use Rattle.sections.specs.Sections.{section, sectionAt, pastSection, functionsOf, patternsOf, pastPatterns}
 use Rattle.sections.specs.Order.{mostFunctions, mostPatterns, allKnown, sectionsRefusal}

@@ -8,7 +8,7 @@ use borrow.Author.Tests.{ltb-true, ltb-false}
 use lib.ListN.{length, take}
 use lib.Seq.{length-take-le, getD-take}
 use lib.Dec.{ltb}
-use Rattle.numbers.specs.Numbers.{numberAt, numbersAt}
+use Rattle.words.specs.Numbers.{numberAt, numbersAt}
 use Rattle.refusals.specs.Refusals.{isNone}
 use Rattle.sections.specs.Sections.{pastSection, functionsOf}
 use Rattle.sections.specs.Order.{mostFunctions, mostPatterns, sectionRefusal, sectionsRefusal}

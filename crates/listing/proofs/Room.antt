@@ -11,7 +11,7 @@ use lib.Dec.{ltb, eqb}
 use Rattle.refusals.specs.declared.Refusal.{Refusal}
 use Rattle.refusals.specs.declared.Refusal.the-variants.{Function, Output, Cut, Limits, After}
 use Rattle.refusals.specs.Refusals.{numberOf}
-use Rattle.numbers.specs.Numbers.{numberAt}
+use Rattle.words.specs.Numbers.{numberAt}
 use Rattle.refusals.specs.Refusals.{isNone, _before_, refusedWhen}
 use Rattle.sections.specs.Sections.{pastSection, functionsOf, patternsOf, pastPatterns}
 use Rattle.sections.specs.Order.{mostFunctions, mostPatterns, sectionRefusal, allKnown, sectionsRefusal}

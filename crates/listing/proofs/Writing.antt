@@ -8,9 +8,9 @@ use native.Mathlib.Nat.{zero-add, suc-mul, mul-le-mul-right}
 use lib.ListN.{length, drop, length-append, length-map}
 use lib.Seq.{sets, sets-eq}
 use Rattle.p16e1.specs.Functions.{answerOf}
-use Rattle.numbers.specs.Numbers.{bytesOf, bytesOfAll, numberAt, numbersAt}
-use Rattle.numbers.proofs.Reading.{length-numbersAt, numbersAt-next}
-use Rattle.numbers.proofs.Writing.{sets-append, bytesOfAll-append, bytesOfAll-snoc, length-bytesOfAll}
+use Rattle.words.specs.Numbers.{bytesOf, bytesOfAll, numberAt, numbersAt}
+use Rattle.words.proofs.Reading.{length-numbersAt, numbersAt-next}
+use Rattle.words.proofs.Writing.{sets-append, bytesOfAll-append, bytesOfAll-snoc, length-bytesOfAll}
 use Rattle.sections.specs.Sections.{section}
 use Rattle.listing.specs.Answered.{answers}
 

@@ -3,7 +3,7 @@
 use Prim.Native.Nat.{ℕ, _+_, _*_}
 use mathlib.Core.List.{List, [], _∷_, _++_, map}
 use Rattle.p16e1.specs.Functions.{answerOf}
-use Rattle.numbers.specs.Numbers.{numbersAt}
+use Rattle.words.specs.Numbers.{numbersAt}
 use Rattle.sections.specs.Sections.{section}
 
 -- all of the first function's answers, then the next's

@@ -9,7 +9,7 @@ use lib.Dec.{ltb}
 use Rattle.refusals.specs.declared.Refusal.{Refusal}
 use Rattle.refusals.specs.declared.Refusal.the-variants.{Output, After}
 use Rattle.refusals.specs.Refusals.{numberOf, isNone, _before_, refusedWhen}
-use Rattle.numbers.specs.Numbers.{bytesOf}
+use Rattle.words.specs.Numbers.{bytesOf}
 use Rattle.sections.specs.Sections.{functionsOf, patternsOf, pastPatterns}
 use Rattle.sections.specs.Order.{sectionsRefusal}
 use Rattle.listing.specs.declared.Listed.{Listed}

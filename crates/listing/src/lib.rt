@@ -59,6 +59,6 @@ pub fn put_refusal(output: &mut [u8], refusal: Refusal) -> usize
     }
     output[0] = 0xFF;
     output[1] = 0xFF;
-    numbers::put_number(output, 2, refusals::number(refusal));
+    words::put_number(output, 2, refusals::number(refusal));
     4
 }

@@ -6,13 +6,13 @@ ghost use Prim.Native.Nat.{_+_, _*_, _≤_, _<_};
 ghost use lib.ListN.{length};
 ghost use lib.Seq.{sets};
 ghost use Rattle.p16e1.specs.Functions.{known, answerOf};
-ghost use Rattle.numbers.specs.Numbers.{bytesOfAll, numbersAt};
+ghost use Rattle.words.specs.Numbers.{bytesOfAll, numbersAt};
 ghost use Rattle.sections.specs.Sections.{section};
 ghost use Rattle.sections.specs.Order.{allKnown};
 ghost use Rattle.listing.specs.Answered.{answersAt};
-use numbers::copy;
-use numbers::number_at;
-use numbers::put_number;
+use words::copy;
+use words::number_at;
+use words::put_number;
 
 // Writes the answered form of the listing in `input`, which has so many functions and patterns and nothing after them.
 pub fn write_answered(input: &[u8], functions: usize, patterns: usize, output: &mut [u8])

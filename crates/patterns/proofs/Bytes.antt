@@ -11,7 +11,7 @@ use Rattle.posit.specs.Rounding.{dyadic}
 use Rattle.posit.proofs.Exists.{answered}
 use Rattle.real.specs.Reals.{FromF64}
 use Rattle.real.proofs.OneAnswer.{one-pattern}
-use Rattle.numbers.specs.Numbers.{bytesOf as numberBytes}
+use Rattle.words.specs.Numbers.{bytesOf as numberBytes}
 use Rattle.blocks.specs.Words.{littleEndian, wordAt, wordsAt, forEach}
 use Rattle.blocks.proofs.Converting.{length-littleEndian, one-more}
 use Rattle.patterns.specs.Patterns.{patternOf, bytesOf}

@@ -38,7 +38,7 @@ fn convert(bytes: &[u8], output: &mut [u8]) -> usize
     let mut i: usize = 0;
     while i < count {
         let p = real::from_bits(bits_at(bytes, 8 * i));
-        numbers::put_number(output, 2 * i, p);
+        words::put_number(output, 2 * i, p);
         i += 1;
     }
     2 * count

@@ -15,7 +15,7 @@ use Rattle.posit.specs.Number.{Number, nar, real, number}
 use Rattle.real.specs.Reals.{Holds, ToF64}
 use Rattle.real.specs.declared.numbers.RealAnswer.the-variants.{Real, NaR}
 use Rattle.real.proofs.Same.{same-bits}
-use Rattle.numbers.specs.Numbers.{numberAt}
+use Rattle.words.specs.Numbers.{numberAt}
 use Rattle.blocks.specs.Words.{littleEndian, wordAt, wordsAt, forEach}
 use Rattle.blocks.proofs.Converting.{length-littleEndian, one-more}
 use Rattle.reals.specs.Reals.{over28, bytesOf}

@@ -32,7 +32,7 @@ fn convert(bytes: &[u8], output: &mut [u8]) -> usize
     let count = bytes.len() / 2;
     let mut i: usize = 0;
     while i < count {
-        let p = numbers::number_at(bytes, 2 * i);
+        let p = words::number_at(bytes, 2 * i);
         let at = 8 * i;
         i += 1;
         let RealAnswer::Real(x) = real::to_f64(p) else {

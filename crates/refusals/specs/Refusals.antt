@@ -1,11 +1,12 @@
--- The refusals and their numbers in document 01, for every call: "1 function number outside 1 to 10; 2 output shorter than the
+-- The refusals and their numbers, for every call. Document 01: "1 function number outside 1 to 10; 2 output shorter than the
 -- input (batch) or than the answered listing; 3 start beyond the input's length; 4 a count or a section is cut short; 5 a count
--- outside its limits; 6 bytes after the patterns". And which of two comes first.
+-- outside its limits; 6 bytes after the patterns". Document 02, P1: "7 for a count that is not F·N, .. 6 for bytes after the
+-- answers; .. 8, the two listings ask different things". And which of two comes first.
 use Prim.Native.Nat.{ℕ}
 use mathlib.Core.Bool.{Bool, cond}
 use lib.Dec.{eqb}
 use Rattle.refusals.specs.declared.Refusal.{Refusal}
-use Rattle.refusals.specs.declared.Refusal.the-variants.{None, Function, Output, Start, Cut, Limits, After}
+use Rattle.refusals.specs.declared.Refusal.the-variants.{None, Function, Output, Start, Cut, Limits, After, Count, Different}
 
 abbrev pub numberOf : Refusal → ℕ
 numberOf None = 0
@@ -15,6 +16,8 @@ numberOf Start = 3
 numberOf Cut = 4
 numberOf Limits = 5
 numberOf After = 6
+numberOf Count = 7
+numberOf Different = 8
 
 abbrev pub isNone : Refusal → Bool
 isNone r = eqb (numberOf r) 0

@@ -10,9 +10,11 @@ pub enum Refusal {
     Cut,
     Limits,
     After,
+    Count,
+    Different,
 }
 
-// The refusal's number in document 01, and 0 where there is none.
+// The refusal's number in documents 01 and 02, and 0 where there is none.
 pub fn number(refusal: Refusal) -> u16
     ensures { λ n. ⌜ n ≡ numberOf refusal ⌝ }
 {
@@ -24,5 +26,7 @@ pub fn number(refusal: Refusal) -> u16
         Refusal::Cut => 4,
         Refusal::Limits => 5,
         Refusal::After => 6,
+        Refusal::Count => 7,
+        Refusal::Different => 8,
     }
 }

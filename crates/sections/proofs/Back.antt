@@ -7,9 +7,9 @@ use native.Mathlib.Numerals.{add-one}
 use native.Mathlib.Nat.{add-zero}
 use lib.ListN.{length, take, drop, getD, length-append}
 use lib.Seq.{getD-append-add, drop-cons}
-use Rattle.numbers.specs.Numbers.{bytesOf, bytesOfAll, numberAt, numbersAt}
-use Rattle.numbers.proofs.Reading.{length-numbersAt}
-use Rattle.numbers.proofs.Writing.{length-bytesOfAll}
+use Rattle.words.specs.Numbers.{bytesOf, bytesOfAll, numberAt, numbersAt}
+use Rattle.words.proofs.Reading.{length-numbersAt}
+use Rattle.words.proofs.Writing.{length-bytesOfAll}
 use Rattle.sections.specs.Sections.{section, sectionAt, pastSection}
 
 number-back : (p : List ℕ) (w : ℕ) (q : List ℕ) → numberAt (p ++ (bytesOf w ++ q)) (length p) ≡ w

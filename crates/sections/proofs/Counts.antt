@@ -4,8 +4,8 @@ use mathlib.Core.Path.{_≡_, ap, _∙_}
 use mathlib.Core.List.{List}
 use native.Mathlib.Omega.{arith}
 use lib.ListN.{length}
-use Rattle.numbers.specs.Numbers.{numberAt, numbersAt}
-use Rattle.numbers.proofs.Reading.{length-numbersAt}
+use Rattle.words.specs.Numbers.{numberAt, numbersAt}
+use Rattle.words.proofs.Reading.{length-numbersAt}
 use Rattle.sections.specs.Sections.{pastSection, functionsOf, patternsOf, pastPatterns}
 
 pub length-functions : (b : List ℕ) → length (functionsOf b) ≡ numberAt b 0

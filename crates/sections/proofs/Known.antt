@@ -6,8 +6,8 @@ use mathlib.Core.List.{List, [], _∷_, _++_}
 use native.Mathlib.Omega.{arith}
 use native.Mathlib.Nat.{add-zero}
 use Rattle.p16e1.specs.Functions.{known}
-use Rattle.numbers.specs.Numbers.{numberAt, numbersAt}
-use Rattle.numbers.proofs.Reading.{numbersAt-next}
+use Rattle.words.specs.Numbers.{numberAt, numbersAt}
+use Rattle.words.proofs.Reading.{numbersAt-next}
 use Rattle.sections.specs.Order.{allKnown}
 
 both : (s t : Bool) → s && t ≡ true → (s ≡ true) × (t ≡ true)

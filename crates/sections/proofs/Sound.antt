@@ -8,7 +8,7 @@ use Rattle.refusals.specs.declared.Refusal.{Refusal}
 use Rattle.refusals.specs.declared.Refusal.the-variants.{None, Function}
 use Rattle.refusals.specs.Refusals.{isNone, _before_, refusedWhen}
 use Rattle.sections.specs.Sections.{pastSection, functionsOf, patternsOf, pastPatterns}
-use Rattle.sections.specs.Order.{mostFunctions, mostPatterns, sectionRefusal, allKnown, sectionsRefusal, sectionsOf}
+use Rattle.sections.specs.Order.{mostFunctions, mostPatterns, sectionRefusal, allKnown, sectionsRefusal, counted}
 use Rattle.sections.proofs.Whole.{Whole, whole, whole-of}
 
 -- sections that are not refused
@@ -53,13 +53,13 @@ sound-of b e =
       patterns = whole-of b (pastSection b 0) 0 mostPatterns (h .2);
     }
 
-pub refused-sections : (b : List ℕ) (r : Refusal) → sectionsRefusal b ≡ r
-    → isNone r ≡ false → record { functions = 0; patterns = 0; refusal = r } ≡ sectionsOf b
-refused-sections b r e n = rw (e, n)
+-- what a reader returns, by its refusal
+pub refused-counts : (b : List ℕ) {s : Refusal} (r : Refusal) → s ≡ r → isNone r ≡ false → record { functions = 0; patterns = 0; refusal = r } ≡ counted b s
+refused-counts b r e n = rw (e, n)
 
-pub sound-sections : (b : List ℕ) (functions patterns : ℕ) → Sound b → functions ≡ length (functionsOf b) → patterns ≡ length (patternsOf b)
-    → record { functions = functions; patterns = patterns; refusal = None } ≡ sectionsOf b
-sound-sections b functions patterns s f p = rw (sound b s, f, p)
+pub found-counts : (b : List ℕ) {s : Refusal} (functions patterns : ℕ) → s ≡ None → functions ≡ length (functionsOf b) → patterns ≡ length (patternsOf b)
+    → record { functions = functions; patterns = patterns; refusal = None } ≡ counted b s
+found-counts b functions patterns e f p = rw (e, f, p)
 
 pub sections-within : (b : List ℕ) → Sound b → pastPatterns b ≤ length b
 unfolding pastPatterns

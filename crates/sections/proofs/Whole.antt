@@ -9,7 +9,7 @@ use lib.Dec.{ltb}
 use Rattle.refusals.specs.declared.Refusal.{Refusal}
 use Rattle.refusals.specs.declared.Refusal.the-variants.{None, Cut, Limits}
 use Rattle.refusals.specs.Refusals.{numberOf}
-use Rattle.numbers.specs.Numbers.{numberAt}
+use Rattle.words.specs.Numbers.{numberAt}
 use Rattle.refusals.specs.Refusals.{isNone, _before_, refusedWhen}
 use Rattle.sections.specs.Sections.{pastSection}
 use Rattle.sections.specs.Order.{sectionRefusal}

@@ -9,7 +9,7 @@ use Rattle.p16e1.specs.Functions.{known}
 use Rattle.refusals.specs.declared.Refusal.{Refusal}
 use Rattle.refusals.specs.declared.Refusal.the-variants.{Function, Cut, Limits}
 use Rattle.refusals.specs.Refusals.{isNone, _before_, refusedWhen}
-use Rattle.numbers.specs.Numbers.{numberAt}
+use Rattle.words.specs.Numbers.{numberAt}
 use Rattle.sections.specs.declared.Sections.{Sections}
 use Rattle.sections.specs.Sections.{pastSection, functionsOf, patternsOf}
 
@@ -38,11 +38,9 @@ sectionsRefusal b =
     before refusedWhen (not (allKnown (functionsOf b))) Function
     before sectionRefusal b (pastSection b 0) 0 mostPatterns
 
--- how many functions and patterns there are: none where the sections are refused
+-- how many functions and patterns there are: none where they are refused
+abbrev pub counted : List ℕ → Refusal → Sections
+counted b r = record { functions = cond (isNone r) (length (functionsOf b)) 0; patterns = cond (isNone r) (length (patternsOf b)) 0; refusal = r }
+
 abbrev pub sectionsOf : List ℕ → Sections
-sectionsOf b =
-    record {
-      functions = cond (isNone (sectionsRefusal b)) (length (functionsOf b)) 0;
-      patterns = cond (isNone (sectionsRefusal b)) (length (patternsOf b)) 0;
-      refusal = sectionsRefusal b;
-    }
+sectionsOf b = counted b (sectionsRefusal b)

@@ -3,7 +3,7 @@
 use Prim.Native.Nat.{ℕ, _+_, _*_}
 use mathlib.Core.List.{List, _++_}
 use lib.ListN.{length}
-use Rattle.numbers.specs.Numbers.{bytesOf, bytesOfAll, numberAt, numbersAt}
+use Rattle.words.specs.Numbers.{bytesOf, bytesOfAll, numberAt, numbersAt}
 
 unfoldable pub section : List ℕ → List ℕ
 section ws = bytesOf (length ws) ++ bytesOfAll ws

@@ -2,11 +2,11 @@
 ghost use mathlib.Core.Path.{_≡_};
 ghost use Prim.Native.Nat.{_+_, _*_, _≤_};
 ghost use lib.ListN.{length};
-ghost use Rattle.numbers.specs.Numbers.{numbersAt};
+ghost use Rattle.words.specs.Numbers.{numbersAt};
 ghost use Rattle.sections.specs.Order.{sectionRefusal, allKnown, sectionsOf};
-use numbers::number_at;
 use refusals::Refusal;
 use refusals::number;
+use words::number_at;
 
 const MOST_FUNCTIONS: u16 = 10;
 
@@ -43,7 +43,8 @@ pub fn read_sections(bytes: &[u8]) -> Sections
     }
 }
 
-fn refused(refusal: Refusal) -> Sections
+// What a reader returns where it refuses.
+pub fn refused(refusal: Refusal) -> Sections
     ensures { λ r. ⌜ r ≡ record { functions = 0; patterns = 0; refusal = refusal } ⌝ }
 {
     Sections {

@@ -7,7 +7,7 @@ use mathlib.Core.List.{_∷_, _++_}
 use native.Mathlib.Omega.{arith}
 use denote.Ref.{now}
 use lib.ListN.{length, drop, length-set}
-use Rattle.numbers.specs.Numbers.{bytesOf}
+use Rattle.words.specs.Numbers.{bytesOf}
 use Rattle.listing.proofs.Writing.{sets-front}
 use Rattle.listing.proofs.put_refusal.Statement.{statement}
 use Rattle.listing.proofs.put_refusal.Tie as tie

@@ -6,7 +6,7 @@ use mathlib.Core.Bool.{true}
 use native.Mathlib.Omega.{arith}
 use denote.Ref.{now}
 use borrow.Author.Tests.{not-true, not-false}
-use Rattle.numbers.specs.Numbers.{numbersAt}
+use Rattle.words.specs.Numbers.{numbersAt}
 use Rattle.sections.specs.Order.{allKnown}
 use Rattle.sections.proofs.Known.{all-known-next, unknown-at}
 use Rattle.sections.proofs.all_known.Statement.{statement}

@@ -9,14 +9,14 @@ use denote.Ref.{now}
 use borrow.Author.Tests.{not-true, not-false}
 use Rattle.refusals.specs.declared.Refusal.{Refusal}
 use Rattle.refusals.specs.declared.Refusal.the-variants.{Function}
-use Rattle.numbers.specs.Numbers.{numberAt, numbersAt}
+use Rattle.words.specs.Numbers.{numberAt, numbersAt}
 use Rattle.refusals.specs.Refusals.{isNone}
 use Rattle.refusals.proofs.Refusing.{refuses, accepts}
 use Rattle.sections.specs.Sections.{pastSection, functionsOf}
 use Rattle.sections.specs.Order.{mostFunctions, mostPatterns, sectionRefusal, allKnown, sectionsRefusal}
 use Rattle.sections.proofs.Counts.{length-functions, length-patterns}
 use Rattle.sections.proofs.Whole.{Whole, whole-of}
-use Rattle.sections.proofs.Sound.{Sound, sound-of, functions-first, unknown-next, patterns-last, refused-sections, sound-sections}
+use Rattle.sections.proofs.Sound.{Sound, sound, sound-of, functions-first, unknown-next, patterns-last, refused-counts, found-counts}
 use Rattle.sections.proofs.read_sections.Statement.{statement}
 use Rattle.sections.proofs.read_sections.Tie as tie
 
@@ -34,7 +34,7 @@ returns c =
     let b = now (c .before .before .before .before .before .args .bytes) in
     let first = c .before .before .before .section-refusal in
     let n = refuses (first .result) (c .before .before .number .result) (c .before .before .number .ensures) (c .before .if1 .taken) in
-    c .refused .ensures ∙ refused-sections b (first .result) (functions-first b (first .result) (first .ensures) n) n
+    c .refused .ensures ∙ refused-counts b (first .result) (functions-first b (first .result) (first .ensures) n) n
 
 module _ (c : tie.Else1) where
   abbrev b : List ℕ
@@ -69,7 +69,7 @@ returns-2 c =
     let d = c .before .before in
     let w = d .before .before in
     let k = sym (known-is d) ∙ not-true (d .all-known .result) (c .before .if2 .taken) in
-    c .refused2 .ensures ∙ refused-sections (b w) Function (unknown-next (b w) (functions-whole w) k) refl
+    c .refused2 .ensures ∙ refused-counts (b w) Function (unknown-next (b w) (functions-whole w) k) refl
 
 mul-at : tie.Need-mul-at
 mul-at c = search needs
@@ -103,7 +103,7 @@ returns-3 c =
     let d = c .before .before .before in
     let second = d .section-refusal2 .result in
     let n = refuses second (c .before .before .number2 .result) (c .before .before .number2 .ensures) (c .before .if3 .taken) in
-    c .refused3 .ensures ∙ refused-sections (b (start d)) second (patterns-refusal d ∙ sym (second-is d)) n
+    c .refused3 .ensures ∙ refused-counts (b (start d)) second (patterns-refusal d ∙ sym (second-is d)) n
 
 module _ (c : tie.Else3) where
   all-sound : Sound (b (start (c .before .before)))
@@ -123,7 +123,7 @@ returns-4 : tie.Need-returns-4
 returns-4 c =
     let f = c .before .before .before .before .before .before .number-at in
     let w = b (start (c .before .before .before)) in
-    sound-sections w (f .result) (c .number-at2 .result) (all-sound (c .before)) (f .ensures ∙ sym (length-functions w))
+    found-counts w (f .result) (c .number-at2 .result) (sound w (all-sound (c .before))) (f .ensures ∙ sym (length-functions w))
     (c .number-at2 .ensures ∙ ap (λ (n : ℕ). numberAt w (2 + 2 * n)) (f .ensures) ∙ sym (length-patterns w))
 
 pub read-sections-spec : {M : Type 1} → statement M

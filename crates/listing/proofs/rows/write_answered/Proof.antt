@@ -5,8 +5,8 @@ use mathlib.Core.Path.{_≡_, ap, _∙_}
 use native.Mathlib.Omega.{arith}
 use denote.Ref.{now}
 use lib.ListN.{length}
-use Rattle.numbers.specs.Numbers.{numbersAt}
-use Rattle.numbers.proofs.Reading.{length-numbersAt}
+use Rattle.words.specs.Numbers.{numbersAt}
+use Rattle.words.proofs.Reading.{length-numbersAt}
 use Rattle.listing.specs.Answered.{answers}
 use Rattle.listing.proofs.Writing.{length-answers, in-turn}
 use Rattle.listing.proofs.rows.write_answered.Statement.{statement}

@@ -6,8 +6,8 @@ use native.Mathlib.Omega.{arith}
 use denote.Ref.{now}
 use lib.ListN.{length}
 use lib.Seq.{sets}
-use Rattle.numbers.specs.Numbers.{bytesOfAll, numbersAt}
-use Rattle.numbers.proofs.Reading.{length-numbersAt}
+use Rattle.words.specs.Numbers.{bytesOfAll, numbersAt}
+use Rattle.words.proofs.Reading.{length-numbersAt}
 use Rattle.sections.proofs.Known.{known-at}
 use Rattle.listing.specs.Answered.{answers}
 use Rattle.listing.proofs.Writing.{answers-next, next-row, row-within}

@@ -10,7 +10,7 @@ use denote.Ref.{now}
 use lib.ListN.{length, length-set}
 use lib.Seq.{sets}
 use Rattle.p16e1.specs.Functions.{answerOf}
-use Rattle.numbers.specs.Numbers.{bytesOfAll, numberAt, numbersAt}
+use Rattle.words.specs.Numbers.{bytesOfAll, numberAt, numbersAt}
 use Rattle.listing.proofs.Writing.{row-next}
 use Rattle.listing.proofs.rows.write_row.Statement.{statement}
 use Rattle.listing.proofs.rows.write_row.Tie as tie

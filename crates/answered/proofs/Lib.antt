@@ -1,0 +1,3 @@
+pub mod Complete
+pub mod Same
+pub mod Pairs

@@ -1,0 +1,3 @@
+pub mod Differences
+pub mod Comparison
+pub mod Walk
