@@ -4,3 +4,6 @@ pub mod Rows
 pub mod Lines
 pub mod There
 pub mod Pairs
+pub mod Exchange
+pub mod Forms
+pub mod Long

@@ -5,7 +5,7 @@ use mathlib.Core.Bool.{Bool, true, false, cond, false≢true}
 use mathlib.Core.List.{List, _++_}
 use native.Mathlib.Omega.{arith}
 use borrow.Author.Tests.{lt-ltb, le-ltb, ltb-false}
-use lib.ListN.{length, drop}
+use lib.ListN.{length, take, drop}
 use lib.Seq.{sets, take-add, take-all}
 use lib.Dec.{ltb}
 use Rattle.refusals.specs.declared.Refusal.{Refusal}
@@ -83,14 +83,17 @@ pub accepted-result : (b output : List ℕ) (n : ℕ) → Accepted b (length out
     → record { written = n; refusal = None } ≡ listedOf b (length output)
 accepted-result b output n a e = rw (← e) (sym (accepted-call b output a .0))
 
--- bytes with sound sections and nothing after them are a listing
-pub is-listing : (b : List ℕ) → Bytes b → Sound b → length b ≤ pastPatterns b → b ≡ listing (functionsOf b) (patternsOf b)
+-- bytes with sound sections begin with a listing, and are one where nothing stands after them
+pub begins-with-listing : (b : List ℕ) → Bytes b → Sound b → take (pastPatterns b) b ≡ listing (functionsOf b) (patternsOf b)
 unfolding functionsOf patternsOf listing pastPatterns
-is-listing b bytes s h =
+begins-with-listing b bytes s =
     let front = pastSection b 0 in
     let back = 2 + 2 * numberAt b front in
-    sym (rw (section-bytes b bytes 0 (s .functions .present), section-bytes b bytes front (s .patterns .present))
-    (sym (take-add front back b) ∙ take-all (front + back) b (omega arith)))
+    let e : pastSection b front ≡ front + back = omega arith in
+    rw (section-bytes b bytes 0 (s .functions .present), section-bytes b bytes front (s .patterns .present), e) (take-add front back b)
+
+pub is-listing : (b : List ℕ) → Bytes b → Sound b → length b ≤ pastPatterns b → b ≡ listing (functionsOf b) (patternsOf b)
+is-listing b bytes s h = sym (take-all (pastPatterns b) b h) ∙ begins-with-listing b bytes s
 
 -- what the writes of a call leave is what the definition says
 module _ (b output : List ℕ) (functions patterns : ℕ) (f : functions ≡ length (functionsOf b)) (p : patterns ≡ length (patternsOf b)) where

@@ -23,13 +23,13 @@ module _ (b : List ℕ) (k : ℕ) (within : k ≤ length b) where
   size : length (take k b) ≡ k
   size = length-take-le k b within
 
-  number-same : (at : ℕ) → at + 2 ≤ k → numberAt (take k b) at ≡ numberAt b at
+  pub number-same : (at : ℕ) → at + 2 ≤ k → numberAt (take k b) at ≡ numberAt b at
   number-same at h =
       let low : at < k = omega arith in
       let high : at + 1 < k = omega arith in
       rw (getD-take k b at 0 low, getD-take k b (at + 1) 0 high)
 
-  numbers-same : (n at : ℕ) → at + 2 * n ≤ k → numbersAt (take k b) at n ≡ numbersAt b at n
+  pub numbers-same : (n at : ℕ) → at + 2 * n ≤ k → numbersAt (take k b) at n ≡ numbersAt b at n
   numbers-same zero at h = refl
   numbers-same (suc n) at h = rw (number-same at (omega arith), numbers-same n (at + 2) (omega arith))
 
@@ -75,7 +75,7 @@ module _ (b : List ℕ) (k : ℕ) (within : k ≤ length b) where
         let r = sectionRefusal b 0 1 mostFunctions in
         functions-first (take k b) r (sym (section-same 0 1 mostFunctions (omega arith))) e ∙ sym (functions-first b r refl e)
 
-    sections-same : sectionsRefusal (take k b) ≡ sectionsRefusal b
+    pub sections-same : sectionsRefusal (take k b) ≡ sectionsRefusal b
     sections-same = sections-by (isNone (sectionRefusal b 0 1 mostFunctions)) refl
 
     refusal-by : (outputs : ℕ) (t : Bool) → isNone (sectionsRefusal b) ≡ t → refusalOf (take k b) outputs ≡ refusalOf b outputs
