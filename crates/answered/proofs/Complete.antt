@@ -1,6 +1,6 @@
 -- Which refusal of an answered listing comes first, and what holds of one that is not refused.
 use Prim.Native.Nat.{ℕ, _+_, _≤_, _<_}
-use mathlib.Core.Path.{_≡_, refl, sym, ap, _∙_}
+use mathlib.Core.Path.{_≡_, refl, sym, _∙_}
 use mathlib.Core.Bool.{Bool, true, false, cond, not, false≢true}
 use mathlib.Core.List.{List}
 use native.Mathlib.Omega.{arith}
@@ -12,10 +12,9 @@ use Rattle.refusals.specs.declared.Refusal.the-variants.{None, Cut, After, Coun
 use Rattle.refusals.specs.Refusals.{isNone, _before_, refusedWhen}
 use Rattle.words.specs.Numbers.{numberAt}
 use Rattle.sections.specs.declared.Sections.{Sections}
-use Rattle.sections.specs.Sections.{pastSection, functionsOf, patternsOf, pastPatterns}
-use Rattle.sections.specs.Order.{mostFunctions, mostPatterns, sectionsRefusal}
-use Rattle.sections.proofs.Counts.{length-functions, length-patterns}
-use Rattle.sections.proofs.Sound.{Sound, sound, sound-of}
+use Rattle.sections.specs.Sections.{pastSection, pastPatterns}
+use Rattle.sections.specs.Order.{sectionsRefusal}
+use Rattle.sections.proofs.Sound.{Sound, sound, sound-of, Counted, counted-of, none-of}
 use Rattle.answered.specs.Answered.{asks, answersRefusal, answeredRefusal, answeredOf}
 
 -- an answered listing that is not refused
@@ -106,21 +105,10 @@ complete-of b e =
 -- what the reader found of a listing that it does not refuse
 pub record Found (b : List ℕ) (s : Sections) : Type 0 where
   pub complete : Complete b
-  pub functions : s .functions ≡ length (functionsOf b)
-  pub patterns : s .patterns ≡ length (patternsOf b)
-  pub few : s .functions ≤ mostFunctions
-  pub some : s .patterns ≤ mostPatterns
+  pub counts : Counted b s
 
 pub found : (b : List ℕ) (s : Sections) → s ≡ answeredOf b → isNone (s .refusal) ≡ true → Found b s
 found b s e n =
-    let none : isNone (answeredRefusal b) ≡ true = sym (ap (λ (r : Sections). isNone (r .refusal)) e) ∙ n in
+    let none = none-of b (answeredRefusal b) s e n in
     let w = complete-of b none in
-    let f : s .functions ≡ length (functionsOf b) = ap (λ (r : Sections). r .functions) e ∙ rw none in
-    let p : s .patterns ≡ length (patternsOf b) = ap (λ (r : Sections). r .patterns) e ∙ rw none in
-    record {
-      complete = w;
-      functions = f;
-      patterns = p;
-      few = omega (arith, f, length-functions b, w .sections .functions .high);
-      some = omega (arith, p, length-patterns b, w .sections .patterns .high);
-    }
+    record { complete = w; counts = counted-of b (answeredRefusal b) s e none (w .sections) }

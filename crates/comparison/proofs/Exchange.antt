@@ -1,5 +1,5 @@
 -- A listing compared with itself, and two listings exchanged.
-use Prim.Native.Nat.{ℕ, suc, _+_, min}
+use Prim.Native.Nat.{ℕ, _+_, min}
 use mathlib.Core.Path.{_≡_, refl, sym, ap, _∙_}
 use mathlib.Core.Bool.{Bool, true, false, cond, not}
 use mathlib.Core.List.{List, [], _∷_, map}
@@ -14,7 +14,7 @@ use Rattle.answered.specs.Answered.{answersOf, answeredRefusal, pairRefusal}
 use Rattle.answered.proofs.Complete.{complete-of}
 use Rattle.answered.proofs.Pairs.{Agreed, agreed, agreed-of}
 use Rattle.line.specs.Line.{signed, apart}
-use Rattle.comparison.specs.Differences.{Ask, Place, asked, places, differs, differing, firstDiffering, nextDiffering}
+use Rattle.comparison.specs.Differences.{Ask, Place, asked, places, differing, firstDiffering, nextDiffering}
 use Rattle.comparison.specs.Comparison.{placesOf, differencesOf}
 
 -- compared with itself: none

@@ -1,6 +1,6 @@
 -- Answered forms are accepted, whatever their answers, and nothing else is.
-use Prim.Native.Nat.{ℕ, _+_, _*_, _≤_, _<_}
-use mathlib.Core.Path.{_≡_, refl, sym, ap, _∙_, subst}
+use Prim.Native.Nat.{ℕ, _+_, _*_}
+use mathlib.Core.Path.{_≡_, sym, ap, _∙_}
 use mathlib.Core.List.{List, [], _++_, append-nil}
 use native.Mathlib.Omega.{arith}
 use lib.ListN.{length, take, drop, length-append, length-drop, take-append-drop}
@@ -9,16 +9,16 @@ use Rattle.refusals.specs.declared.Refusal.the-variants.{None}
 use Rattle.refusals.specs.Refusals.{isNone}
 use Rattle.words.specs.Numbers.{numberAt}
 use Rattle.words.proofs.Reading.{length-numbersAt}
-use Rattle.sections.specs.Sections.{section, sectionAt, pastSection, functionsOf, patternsOf, pastPatterns}
-use Rattle.sections.proofs.Back.{Bytes, section-back, past-back, length-section, section-bytes}
+use Rattle.sections.specs.Sections.{section, sectionAt, functionsOf, patternsOf, pastPatterns}
+use Rattle.sections.proofs.Back.{Bytes, section-back, length-section, section-bytes}
 use Rattle.sections.proofs.Counts.{length-functions, length-patterns}
 use Rattle.listing.specs.Answered.{answers, listing, answered}
 use Rattle.listing.proofs.Writing.{length-answers}
 use Rattle.listing.proofs.Calls.{begins-with-listing}
 use Rattle.listing.proofs.Laws.{Listable, functions-back, patterns-back, past-listing, sound-listing}
-use Rattle.answered.specs.Answered.{answersOf, asks, answeredRefusal, pairRefusal}
-use Rattle.answered.proofs.Complete.{Complete, complete}
-use Rattle.answered.proofs.Pairs.{Agreed, agreed, agreed-of}
+use Rattle.answered.specs.Answered.{answersOf, asks, pairRefusal}
+use Rattle.answered.proofs.Complete.{Complete}
+use Rattle.answered.proofs.Pairs.{agreed, agreed-of}
 
 -- the bytes of an answered form: "count F·N, then the answers"
 abbrev pub form : List ℕ → List ℕ → List ℕ → List ℕ

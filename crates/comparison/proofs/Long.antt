@@ -1,6 +1,6 @@
 -- How long answered listings get: none is longer than 22,554 bytes, of longer bytes the first 22,555 decide how they are refused, and
 -- 317,440 bytes have room for all lines.
-use Prim.Native.Nat.{ℕ, _+_, _*_, _≤_, _<_}
+use Prim.Native.Nat.{ℕ, _*_, _≤_, _<_}
 use mathlib.Core.Path.{_≡_, refl, sym, ap, _∙_}
 use mathlib.Core.Bool.{Bool, true, false}
 use mathlib.Core.List.{List}
@@ -10,20 +10,19 @@ use borrow.Author.Tests.{ltb-true, ltb-false, eqb-true, eqb-false, le-ltb}
 use lib.ListN.{length, take}
 use lib.Seq.{length-take-le, take-all}
 use lib.Dec.{ltb, eqb}
-use Rattle.refusals.specs.declared.Refusal.{Refusal}
-use Rattle.refusals.specs.declared.Refusal.the-variants.{None, After, Count}
+use Rattle.refusals.specs.declared.Refusal.the-variants.{None}
 use Rattle.refusals.specs.Refusals.{isNone}
 use Rattle.words.specs.Numbers.{numberAt}
 use Rattle.sections.specs.Sections.{pastSection, functionsOf, patternsOf, pastPatterns}
 use Rattle.sections.specs.Order.{mostFunctions, mostPatterns, sectionsRefusal}
 use Rattle.sections.proofs.Counts.{length-functions, length-patterns}
-use Rattle.sections.proofs.Sound.{Sound, sound, sound-of}
-use Rattle.listing.proofs.Long.{longest, sound-short}
+use Rattle.sections.proofs.Sound.{Sound, sound-of}
+use Rattle.listing.proofs.Long.{sound-short}
 use Rattle.listing.proofs.Room.{longestAnswered}
 use Rattle.listing.proofs.Prefix.{number-same, sections-same}
 use Rattle.answered.specs.Answered.{asks, answeredRefusal, pairRefusal}
 use Rattle.answered.proofs.Complete.{Complete, complete-of, sections-first, count-wrong, bytes-after}
-use Rattle.answered.proofs.Pairs.{Agreed, agreed-of, first-first, second-next}
+use Rattle.answered.proofs.Pairs.{agreed-of, first-first, second-next}
 use Rattle.line.specs.Line.{roomFor}
 use Rattle.comparison.specs.Comparison.{differencesOf, shown, mostLines, saidOf}
 use Rattle.comparison.proofs.Lines.{most-lines-most}

@@ -1,12 +1,12 @@
 -- What the calls return and write where two listings are refused, and where they are not.
 use Prim.Native.Nat.{ℕ, _+_, _*_, _≤_, _<_}
-use mathlib.Core.Path.{_≡_, refl, sym, ap, _∙_}
-use mathlib.Core.Bool.{Bool, true, false, cond}
+use mathlib.Core.Path.{_≡_, sym, ap, _∙_}
+use mathlib.Core.Bool.{Bool, true, false}
 use mathlib.Core.List.{List, [], _++_}
 use native.Mathlib.Omega.{arith}
 use native.Mathlib.Nat.{zero-add}
 use borrow.Author.Tests.{lt-ltb, le-ltb}
-use lib.ListN.{length, drop, length-append}
+use lib.ListN.{length, drop}
 use lib.Seq.{sets, sets-eq, length-sets}
 use Rattle.refusals.specs.declared.Refusal.{Refusal}
 use Rattle.refusals.specs.declared.Refusal.the-variants.{None}
@@ -14,40 +14,28 @@ use Rattle.refusals.specs.Refusals.{numberOf, isNone}
 use Rattle.words.specs.Numbers.{numberAt, numbersAt}
 use Rattle.sections.specs.declared.Sections.{Sections}
 use Rattle.sections.specs.Sections.{functionsOf, patternsOf, pastPatterns}
-use Rattle.sections.specs.Order.{mostFunctions, mostPatterns}
-use Rattle.sections.proofs.Counts.{length-functions, length-patterns, past-is, functions-are, patterns-are}
+use Rattle.sections.proofs.Counts.{past-is, functions-are, patterns-are}
+use Rattle.sections.proofs.Sound.{Counted, counted-of, none-of}
 use Rattle.answered.specs.Answered.{answersOf, asks, pairRefusal, pairOf}
 use Rattle.answered.proofs.Complete.{Complete}
 use Rattle.answered.proofs.Pairs.{Agreed, agreed, agreed-of}
 use Rattle.line.specs.Line.{field, roomFor, fitted}
 use Rattle.io.specs.Counts.{Counts}
 use Rattle.io.proofs.Counting.{counts}
-use Rattle.comparison.specs.declared.Found.{Found}
-use Rattle.comparison.specs.Differences.{Place, asked, places, differing, nextDiffering}
+use Rattle.comparison.specs.Differences.{Place, differing, nextDiffering}
 use Rattle.comparison.specs.Comparison.{placesOf, differencesOf, differenceOf, shown, mostLines, saidOf, outputOf}
 use Rattle.comparison.specs.Walk.{answersAt, placesAt}
 
 -- what was read of two listings that are not refused
 pub record Read (b c : List ℕ) (s : Sections) : Type 0 where
   pub both : Agreed b c
-  pub functions : s .functions ≡ length (functionsOf b)
-  pub patterns : s .patterns ≡ length (patternsOf b)
-  pub few : s .functions ≤ mostFunctions
-  pub some : s .patterns ≤ mostPatterns
+  pub counts : Counted b s
 
 pub read : (b c : List ℕ) (s : Sections) → s ≡ pairOf b c → isNone (s .refusal) ≡ true → Read b c s
 read b c s e n =
-    let none : isNone (pairRefusal b c) ≡ true = sym (ap (λ (r : Sections). isNone (r .refusal)) e) ∙ n in
+    let none = none-of b (pairRefusal b c) s e n in
     let w = agreed-of b c none in
-    let f : s .functions ≡ length (functionsOf b) = ap (λ (r : Sections). r .functions) e ∙ rw none in
-    let p : s .patterns ≡ length (patternsOf b) = ap (λ (r : Sections). r .patterns) e ∙ rw none in
-    record {
-      both = w;
-      functions = f;
-      patterns = p;
-      few = omega (arith, f, length-functions b, w .first .sections .functions .high);
-      some = omega (arith, p, length-patterns b, w .first .sections .patterns .high);
-    }
+    record { both = w; counts = counted-of b (pairRefusal b c) s e none (w .first .sections) }
 
 -- the answers of a listing, by how many functions and patterns it has
 answers-are : (b : List ℕ) (functions patterns : ℕ) → Complete b → functions ≡ length (functionsOf b) → patterns ≡ length (patternsOf b)
@@ -64,23 +52,23 @@ module _ (b c : List ℕ) (s : Sections) (r : Read b c s) where
   not-refused = agreed b c (r .both)
 
   pub asks-are : s .functions * s .patterns ≡ asks b
-  asks-are = ap (λ (k : ℕ). k * s .patterns) (r .functions) ∙ ap (λ (k : ℕ). length (functionsOf b) * k) (r .patterns)
+  asks-are = ap (λ (k : ℕ). k * s .patterns) (r .counts .functions) ∙ ap (λ (k : ℕ). length (functionsOf b) * k) (r .counts .patterns)
 
   first-are : answersAt b (s .functions) (s .patterns) ≡ answersOf b
-  first-are = answers-are b (s .functions) (s .patterns) (r .both .first) (r .functions) (r .patterns)
+  first-are = answers-are b (s .functions) (s .patterns) (r .both .first) (r .counts .functions) (r .counts .patterns)
 
   second-are : answersAt c (s .functions) (s .patterns) ≡ answersOf c
   second-are =
       answers-are c (s .functions) (s .patterns) (r .both .second)
-      (r .functions ∙ ap length (r .both .functions)) (r .patterns ∙ ap length (r .both .patterns))
+      (r .counts .functions ∙ ap length (r .both .functions)) (r .counts .patterns ∙ ap length (r .both .patterns))
 
   places-are : placesAt b c (s .functions) (s .patterns) ≡ placesOf b c
   unfolding placesOf
   places-are =
       let at : 4 + 2 * s .functions ≡ 2 + 2 * s .functions + 2 = omega arith in
       let ps : numbersAt b (4 + 2 * s .functions) (s .patterns) ≡ patternsOf b =
-      ap (λ (k : ℕ). numbersAt b k (s .patterns)) at ∙ patterns-are b (s .functions) (s .patterns) (r .functions) (r .patterns) in
-      rw (functions-are b (s .functions) (s .patterns) (r .functions) (r .patterns), ps, first-are, second-are)
+      ap (λ (k : ℕ). numbersAt b k (s .patterns)) at ∙ patterns-are b (s .functions) (s .patterns) (r .counts .functions) (r .counts .patterns) in
+      rw (functions-are b (s .functions) (s .patterns) (r .counts .functions) (r .counts .patterns), ps, first-are, second-are)
 
   pub next-found : (from place : ℕ) → place ≡ nextDiffering (answersAt b (s .functions) (s .patterns)) (answersAt c (s .functions) (s .patterns)) from
       → record { place = place; refusal = None } ≡ differenceOf b c from

@@ -3,7 +3,6 @@ ghost use mathlib.Core.Path.{_≡_};
 ghost use Prim.Native.Nat.{_+_, _*_, _≤_, _<_};
 ghost use lib.ListN.{length};
 ghost use lib.Seq.{sets};
-ghost use Rattle.words.specs.Numbers.{numbersAt};
 ghost use Rattle.line.specs.Line.{roomFor};
 ghost use Rattle.comparison.specs.Differences.{differing, nextDiffering};
 ghost use Rattle.comparison.specs.Comparison.{shown, mostLines};

@@ -13,8 +13,8 @@ fn main() {
 fn try_all(cases: &[u8]) {
     let mut at: usize = 0;
     while cases.len() - at >= 4 {
-        let room = number(cases[at], cases[at + 1]);
-        let length = number(cases[at + 2], cases[at + 3]) as usize;
+        let room = words::number_at(cases, at);
+        let length = words::number_at(cases, at + 2) as usize;
         let start = at + 4;
         if cases.len() - start < length {
             return;
@@ -38,8 +38,4 @@ fn write_reply(listing: &[u8], output: &mut [u8]) -> bool {
     let n = reply::reply_to(listing, output);
     let count = [(n % 256) as u8, (n / 256 % 256) as u8];
     blocks::write_block(&count) && blocks::write_block(&output[..n])
-}
-
-fn number(low: u8, high: u8) -> u16 {
-    low as u16 + 256 * (high as u16)
 }

@@ -1,14 +1,17 @@
 -- Which refusal of the two sections comes first, and what holds of them where none does.
 use Prim.Native.Nat.{ℕ, _≤_}
-use mathlib.Core.Path.{_≡_, refl, sym, _∙_}
+use mathlib.Core.Path.{_≡_, refl, sym, ap, _∙_}
 use mathlib.Core.Bool.{Bool, true, false, cond, not, false≢true}
 use mathlib.Core.List.{List}
+use native.Mathlib.Omega.{arith}
 use lib.ListN.{length}
 use Rattle.refusals.specs.declared.Refusal.{Refusal}
 use Rattle.refusals.specs.declared.Refusal.the-variants.{None, Function}
 use Rattle.refusals.specs.Refusals.{isNone, _before_, refusedWhen}
+use Rattle.sections.specs.declared.Sections.{Sections}
 use Rattle.sections.specs.Sections.{pastSection, functionsOf, patternsOf, pastPatterns}
 use Rattle.sections.specs.Order.{mostFunctions, mostPatterns, sectionRefusal, allKnown, sectionsRefusal, counted}
+use Rattle.sections.proofs.Counts.{length-functions, length-patterns}
 use Rattle.sections.proofs.Whole.{Whole, whole, whole-of}
 
 -- sections that are not refused
@@ -64,3 +67,25 @@ found-counts b functions patterns e f p = rw (e, f, p)
 pub sections-within : (b : List ℕ) → Sound b → pastPatterns b ≤ length b
 unfolding pastPatterns
 sections-within b s = s .patterns .present
+
+-- what a reader found that does not refuse, by the refusal of its definition
+pub record Counted (b : List ℕ) (s : Sections) : Type 0 where
+  pub functions : s .functions ≡ length (functionsOf b)
+  pub patterns : s .patterns ≡ length (patternsOf b)
+  pub few : s .functions ≤ mostFunctions
+  pub some : s .patterns ≤ mostPatterns
+
+pub counted-of : (b : List ℕ) (r : Refusal) (s : Sections) → s ≡ counted b r → isNone r ≡ true → Sound b → Counted b s
+counted-of b r s e n w =
+    let f : s .functions ≡ length (functionsOf b) = ap (λ (t : Sections). t .functions) e ∙ rw n in
+    let p : s .patterns ≡ length (patternsOf b) = ap (λ (t : Sections). t .patterns) e ∙ rw n in
+    record {
+      functions = f;
+      patterns = p;
+      few = omega (arith, f, length-functions b, w .functions .high);
+      some = omega (arith, p, length-patterns b, w .patterns .high);
+    }
+
+-- its refusal is the definition's
+pub none-of : (b : List ℕ) (r : Refusal) (s : Sections) → s ≡ counted b r → isNone (s .refusal) ≡ true → isNone r ≡ true
+none-of b r s e n = sym (ap (λ (t : Sections). isNone (t .refusal)) e) ∙ n

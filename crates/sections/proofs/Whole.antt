@@ -1,14 +1,12 @@
 -- When a section is refused and with which number, and what holds of one that is not.
 use Prim.Native.Nat.{ℕ, _+_, _≤_, _<_}
-use mathlib.Core.Path.{_≡_, refl, sym, _∙_}
+use mathlib.Core.Path.{_≡_, refl}
 use mathlib.Core.Bool.{Bool, true, false, _||_, false≢true}
 use mathlib.Core.List.{List}
 use borrow.Author.Tests.{lt-ltb, le-ltb, ltb-false}
 use lib.ListN.{length}
 use lib.Dec.{ltb}
-use Rattle.refusals.specs.declared.Refusal.{Refusal}
 use Rattle.refusals.specs.declared.Refusal.the-variants.{None, Cut, Limits}
-use Rattle.refusals.specs.Refusals.{numberOf}
 use Rattle.words.specs.Numbers.{numberAt}
 use Rattle.refusals.specs.Refusals.{isNone, _before_, refusedWhen}
 use Rattle.sections.specs.Sections.{pastSection}

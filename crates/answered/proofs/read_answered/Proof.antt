@@ -1,24 +1,23 @@
 -- `answered::read_answered` meets its contract: each return is one of the cases of `Complete`.
 use borrow.Author.Needs.{needs}
 use Prim.Native.Nat.{ℕ, _+_, _*_, _≤_}
-use mathlib.Core.Path.{_≡_, refl, sym, ap, _∙_, subst}
+use mathlib.Core.Path.{_≡_, refl, sym, ap, _∙_}
 use mathlib.Core.Bool.{true}
 use mathlib.Core.List.{List}
 use native.Mathlib.Omega.{arith}
 use native.Mathlib.Nat.{mul-le-mul}
 use denote.Ref.{now}
 use lib.ListN.{length}
-use Rattle.refusals.specs.declared.Refusal.{Refusal}
 use Rattle.refusals.specs.declared.Refusal.the-variants.{Cut, After, Count}
 use Rattle.refusals.specs.Refusals.{isNone}
 use Rattle.refusals.proofs.Refusing.{refuses, accepts}
 use Rattle.words.specs.Numbers.{numberAt}
 use Rattle.sections.specs.declared.Sections.{Sections}
-use Rattle.sections.specs.Sections.{pastSection, functionsOf, patternsOf, pastPatterns}
+use Rattle.sections.specs.Sections.{pastSection, functionsOf, pastPatterns}
 use Rattle.sections.specs.Order.{sectionsRefusal}
-use Rattle.sections.proofs.Counts.{length-functions, length-patterns, past-is}
-use Rattle.sections.proofs.Sound.{Sound, sound, sound-of, sections-within, refused-counts, found-counts}
-use Rattle.answered.specs.Answered.{asks, answeredRefusal}
+use Rattle.sections.proofs.Counts.{past-is}
+use Rattle.sections.proofs.Sound.{Sound, sound-of, sections-within, refused-counts, found-counts, Counted, counted-of, none-of}
+use Rattle.answered.specs.Answered.{asks}
 use Rattle.answered.proofs.Complete.{Complete, sections-first, count-missing, count-wrong, answers-missing, bytes-after, complete}
 use Rattle.answered.proofs.read_answered.Statement.{statement}
 use Rattle.answered.proofs.read_answered.Tie as tie
@@ -48,44 +47,37 @@ module _ (c : tie.Else1) where
   abbrev found : Sections
   found = c .before .before .read-sections .result
 
-  all-sound : Sound b
-  all-sound =
+  none : isNone (sectionsRefusal b) ≡ true
+  none =
       let n = c .before .number in
-      let e : found .refusal ≡ sectionsRefusal b = ap (λ (s : Sections). s .refusal) (c .before .before .read-sections .ensures) in
-      sound-of b (subst (λ (r : Refusal). isNone r ≡ true) e (accepts (found .refusal) (n .result) (n .ensures) (c .if1 .left)))
+      none-of b (sectionsRefusal b) found (c .before .before .read-sections .ensures) (accepts (found .refusal) (n .result) (n .ensures) (c .if1 .left))
 
-  functions-is : found .functions ≡ length (functionsOf b)
-  functions-is = ap (λ (s : Sections). s .functions) (c .before .before .read-sections .ensures) ∙ rw (sound b all-sound)
+  all-sound : Sound b
+  all-sound = sound-of b none
 
-  patterns-is : found .patterns ≡ length (patternsOf b)
-  patterns-is = ap (λ (s : Sections). s .patterns) (c .before .before .read-sections .ensures) ∙ rw (sound b all-sound)
-
-  few : found .functions ≤ 10
-  few = omega (arith, functions-is, length-functions b, all-sound .functions .high)
-
-  some : found .patterns ≤ 1024
-  some = omega (arith, patterns-is, length-patterns b, all-sound .patterns .high)
+  counts : Counted b found
+  counts = counted-of b (sectionsRefusal b) found (c .before .before .read-sections .ensures) none all-sound
 
   answers : found .functions * found .patterns ≤ 10240
-  answers = mul-le-mul few some
+  answers = mul-le-mul (counts .few) (counts .some)
 
   past : pastPatterns b ≡ 4 + 2 * found .functions + 2 * found .patterns
-  past = past-is b (found .functions) (found .patterns) functions-is patterns-is
+  past = past-is b (found .functions) (found .patterns) (counts .functions) (counts .patterns)
 
   asks-is : found .functions * found .patterns ≡ asks b
-  asks-is = ap (λ (n : ℕ). n * found .patterns) functions-is ∙ ap (λ (n : ℕ). length (functionsOf b) * n) patterns-is
+  asks-is = ap (λ (n : ℕ). n * found .patterns) (counts .functions) ∙ ap (λ (n : ℕ). length (functionsOf b) * n) (counts .patterns)
 
 mul-end : tie.Need-mul-end
-mul-end c = omega (arith, few c)
+mul-end c = omega (arith, counts c .few)
 
 add-end : tie.Need-add-end
-add-end c = omega (arith, few c)
+add-end c = omega (arith, counts c .few)
 
 mul-end-2 : tie.Need-mul-end-2
-mul-end-2 c = omega (arith, some c)
+mul-end-2 c = omega (arith, counts c .some)
 
 add-end-2 : tie.Need-add-end-2
-add-end-2 c = omega (arith, few c, some c)
+add-end-2 c = omega (arith, counts c .few, counts c .some)
 
 sub-if2 : tie.Need-sub-if2
 sub-if2 c = omega (arith, past c, sections-within (b c) (all-sound c))
@@ -132,13 +124,13 @@ module _ (c : tie.Else3) where
   end = omega (arith, past d, count, asks-is d)
 
 add-whole : tie.Need-add-whole
-add-whole c = omega (arith, few (d c), some (d c))
+add-whole c = omega (arith, counts (d c) .few, counts (d c) .some)
 
 mul-whole : tie.Need-mul-whole
 mul-whole c = omega (arith, answers (d c))
 
 add-whole-2 : tie.Need-add-whole-2
-add-whole-2 c = omega (arith, few (d c), some (d c), answers (d c))
+add-whole-2 c = omega (arith, counts (d c) .few, counts (d c) .some, answers (d c))
 
 refused-requires-4 : tie.Need-refused-requires-4
 refused-requires-4 c κs = search needs
@@ -162,7 +154,7 @@ returns-6 c =
     let w = b (d e) in
     let all : Complete w =
     record { sections = all-sound (d e); counted = counted e; count = count e; present = omega (arith, end e); nothing-after = omega (arith, end e) } in
-    found-counts w (found (d e) .functions) (found (d e) .patterns) (complete w all) (functions-is (d e)) (patterns-is (d e))
+    found-counts w (found (d e) .functions) (found (d e) .patterns) (complete w all) (counts (d e) .functions) (counts (d e) .patterns)
 
 pub read-answered-spec : {M : Type 1} → statement M
 read-answered-spec =

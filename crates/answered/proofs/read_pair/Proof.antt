@@ -2,7 +2,6 @@
 use borrow.Author.Needs.{needs}
 use Prim.Native.Nat.{ℕ, _+_, _*_}
 use mathlib.Core.Path.{_≡_, refl, sym, ap, _∙_}
-use mathlib.Core.Bool.{true}
 use mathlib.Core.List.{List}
 use native.Mathlib.Omega.{arith}
 use denote.Ref.{now}
@@ -15,7 +14,6 @@ use Rattle.sections.specs.declared.Sections.{Sections}
 use Rattle.sections.specs.Sections.{functionsOf, patternsOf}
 use Rattle.sections.proofs.Counts.{functions-are, patterns-are}
 use Rattle.sections.proofs.Sound.{refused-counts, found-counts}
-use Rattle.answered.specs.Answered.{same}
 use Rattle.answered.proofs.Complete.{Found, found}
 use Rattle.answered.proofs.Same.{same-lists, same-false}
 use Rattle.answered.proofs.Pairs.{Agreed, first-first, second-next, functions-differ, patterns-differ, agreed}
@@ -89,7 +87,7 @@ returns-3 c =
     let e = c .before .before .before in
     let x = first-found (d e) in
     let y = second-found e in
-    let apart : functionsOf (b (d e)) ≡ functionsOf (other (d e)) → ⊥ = λ q. c .before .if3 .taken (x .functions ∙ ap length q ∙ sym (y .functions)) in
+    let apart : functionsOf (b (d e)) ≡ functionsOf (other (d e)) → ⊥ = λ q. c .before .if3 .taken (x .counts .functions ∙ ap length q ∙ sym (y .counts .functions)) in
     c .refused3 .ensures ∙ refused-counts (b (d e)) Different (functions-differ (b (d e)) (other (d e)) (x .complete) (y .complete) apart) refl
 
 refused-requires-4 : tie.Need-refused-requires-4
@@ -100,7 +98,7 @@ returns-4 c =
     let e = c .before .before .before .before .before in
     let x = first-found (d e) in
     let y = second-found e in
-    let apart : patternsOf (b (d e)) ≡ patternsOf (other (d e)) → ⊥ = λ q. c .before .if4 .taken (x .patterns ∙ ap length q ∙ sym (y .patterns)) in
+    let apart : patternsOf (b (d e)) ≡ patternsOf (other (d e)) → ⊥ = λ q. c .before .if4 .taken (x .counts .patterns ∙ ap length q ∙ sym (y .counts .patterns)) in
     c .refused4 .ensures ∙ refused-counts (b (d e)) Different (patterns-differ (b (d e)) (other (d e)) (x .complete) (y .complete) apart) refl
 
 module _ (c : tie.Else4) where
@@ -114,13 +112,13 @@ module _ (c : tie.Else4) where
   y = second-found e
 
   functions-same : one (d e) .functions ≡ length (functionsOf (other (d e)))
-  functions-same = c .before .before .if3 .left ∙ y .functions
+  functions-same = c .before .before .if3 .left ∙ y .counts .functions
 
   patterns-same : one (d e) .patterns ≡ length (patternsOf (other (d e)))
-  patterns-same = c .if4 .left ∙ y .patterns
+  patterns-same = c .if4 .left ∙ y .counts .patterns
 
   functions-first : numbersAt (b (d e)) 2 (one (d e) .functions) ≡ functionsOf (b (d e))
-  functions-first = functions-are (b (d e)) (one (d e) .functions) (one (d e) .patterns) (x .functions) (x .patterns)
+  functions-first = functions-are (b (d e)) (one (d e) .functions) (one (d e) .patterns) (x .counts .functions) (x .counts .patterns)
 
   functions-second : numbersAt (other (d e)) 2 (one (d e) .functions) ≡ functionsOf (other (d e))
   functions-second = functions-are (other (d e)) (one (d e) .functions) (one (d e) .patterns) functions-same patterns-same
@@ -131,7 +129,7 @@ module _ (c : tie.Else4) where
   patterns-first : numbersAt (b (d e)) (4 + 2 * one (d e) .functions) (one (d e) .patterns) ≡ patternsOf (b (d e))
   patterns-first =
       ap (λ (n : ℕ). numbersAt (b (d e)) n (one (d e) .patterns)) at-is
-      ∙ patterns-are (b (d e)) (one (d e) .functions) (one (d e) .patterns) (x .functions) (x .patterns)
+      ∙ patterns-are (b (d e)) (one (d e) .functions) (one (d e) .patterns) (x .counts .functions) (x .counts .patterns)
 
   patterns-second : numbersAt (other (d e)) (4 + 2 * one (d e) .functions) (one (d e) .patterns) ≡ patternsOf (other (d e))
   patterns-second =
@@ -139,7 +137,7 @@ module _ (c : tie.Else4) where
       ∙ patterns-are (other (d e)) (one (d e) .functions) (one (d e) .patterns) functions-same patterns-same
 
 same-numbers-requires : tie.Need-same-numbers-requires
-same-numbers-requires c κs = omega (arith, x c .few)
+same-numbers-requires c κs = omega (arith, x c .counts .few)
 
 refused-requires-5 : tie.Need-refused-requires-5
 refused-requires-5 c κs = search needs
@@ -154,13 +152,13 @@ returns-5 c =
     c .refused5 .ensures ∙ refused-counts (b (d (e g))) Different (functions-differ (b (d (e g))) (other (d (e g))) (x g .complete) (y g .complete) apart) refl
 
 mul-same-numbers : tie.Need-mul-same-numbers
-mul-same-numbers c = omega (arith, x (c .before .before) .few)
+mul-same-numbers c = omega (arith, x (c .before .before) .counts .few)
 
 add-same-numbers : tie.Need-add-same-numbers
-add-same-numbers c = omega (arith, x (c .before .before) .few)
+add-same-numbers c = omega (arith, x (c .before .before) .counts .few)
 
 same-numbers-requires-2 : tie.Need-same-numbers-requires-2
-same-numbers-requires-2 c κs = omega (arith, x (c .before .before) .few, x (c .before .before) .some)
+same-numbers-requires-2 c κs = omega (arith, x (c .before .before) .counts .few, x (c .before .before) .counts .some)
 
 refused-requires-6 : tie.Need-refused-requires-6
 refused-requires-6 c κs = search needs
@@ -190,7 +188,7 @@ returns-7 c =
       functions = sym (functions-first g) ∙ same-functions ∙ functions-second g;
       patterns = sym (patterns-first g) ∙ same-patterns ∙ patterns-second g;
     } in
-    found-counts w (one (d (e g)) .functions) (one (d (e g)) .patterns) (agreed w (other (d (e g))) all) (x g .functions) (x g .patterns)
+    found-counts w (one (d (e g)) .functions) (one (d (e g)) .patterns) (agreed w (other (d (e g))) all) (x g .counts .functions) (x g .counts .patterns)
 
 pub read-pair-spec : {M : Type 1} → statement M
 read-pair-spec =

@@ -1,20 +1,19 @@
 -- `comparison::compare` meets its contract: the refusal's number, nothing, or the lines.
 use borrow.Author.Needs.{needs}
-use Prim.Native.Nat.{ℕ, _+_, _*_, _≤_, _<_}
-use mathlib.Core.Path.{_≡_, refl, ap, _∙_, sym}
-use mathlib.Core.List.{List, []}
+use Prim.Native.Nat.{ℕ, _*_, _≤_}
+use mathlib.Core.Path.{refl, ap, _∙_, sym}
+use mathlib.Core.List.{[]}
 use native.Mathlib.Omega.{arith}
 use native.Mathlib.Nat.{mul-le-mul}
 use denote.Ref.{now}
 use lib.ListN.{length}
-use Rattle.refusals.specs.Refusals.{numberOf}
 use Rattle.refusals.proofs.Refusing.{refuses, accepts}
 use Rattle.sections.specs.declared.Sections.{Sections}
 use Rattle.line.specs.Line.{field, roomFor, fitted}
 use Rattle.line.proofs.Digits.{field-most}
 use Rattle.line.proofs.Writing.{fitted-most}
 use Rattle.comparison.specs.Differences.{differing}
-use Rattle.comparison.specs.Comparison.{shown, mostLines, saidOf}
+use Rattle.comparison.specs.Comparison.{shown, mostLines}
 use Rattle.comparison.specs.Walk.{placesAt}
 use Rattle.comparison.proofs.Lines.{shown-most, most-lines-most}
 use Rattle.comparison.proofs.There.{all-places}
@@ -61,7 +60,7 @@ module _ (c : tie.Else1) where
       (accepts (found .refusal) (c .before .number .result) (c .before .number .ensures) (c .if1 .left))
 
   small : found .functions * found .patterns ≤ 10240
-  small = mul-le-mul (both .few) (both .some)
+  small = mul-le-mul (both .counts .few) (both .counts .some)
 
 mul-most-lines : tie.Need-mul-most-lines
 mul-most-lines c = omega (arith, small c)
@@ -82,7 +81,7 @@ returns-2 c =
 write-lines-requires : tie.Need-write-lines-requires
 write-lines-requires c κs =
     let d = c .before .before .before in
-    (both d .few, both d .some, omega (arith, c .before .before .most-lines .ensures))
+    (both d .counts .few, both d .counts .some, omega (arith, c .before .before .most-lines .ensures))
 
 same-length-2 : tie.Need-same-length-2
 same-length-2 c = search needs

@@ -1,7 +1,6 @@
 -- `comparison::difference` meets its contract.
 use borrow.Author.Needs.{needs}
-use mathlib.Core.Path.{_≡_, ap, _∙_, sym}
-use native.Mathlib.Omega.{arith}
+use mathlib.Core.Path.{ap, sym}
 use denote.Ref.{now}
 use Rattle.refusals.proofs.Refusing.{refuses, accepts}
 use Rattle.sections.specs.declared.Sections.{Sections}
@@ -31,7 +30,7 @@ both c =
     (accepts (found .result .refusal) (c .before .number .result) (c .before .number .ensures) (c .if1 .left))
 
 next-difference-requires : tie.Need-next-difference-requires
-next-difference-requires c κs = (both c .few, both c .some)
+next-difference-requires c κs = (both c .counts .few, both c .counts .some)
 
 returns-2 : tie.Need-returns-2
 returns-2 c =

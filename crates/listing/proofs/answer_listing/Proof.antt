@@ -1,14 +1,13 @@
 -- `listing::answer_listing` meets its contract: each return is one of the cases of `Calls`.
 use borrow.Author.Needs.{needs}
 use Prim.Native.Nat.{ℕ, _+_, _*_, _≤_}
-use mathlib.Core.Path.{_≡_, refl, ap, _∙_, subst}
+use mathlib.Core.Path.{_≡_, refl, ap, _∙_}
 use mathlib.Core.Bool.{true}
 use mathlib.Core.List.{List}
 use native.Mathlib.Omega.{arith}
 use native.Mathlib.Nat.{mul-le-mul}
 use denote.Ref.{now}
 use lib.ListN.{length}
-use Rattle.refusals.specs.declared.Refusal.{Refusal}
 use Rattle.refusals.specs.declared.Refusal.the-variants.{Output, After}
 use Rattle.sections.specs.declared.Sections.{Sections}
 use Rattle.refusals.specs.Refusals.{isNone}
@@ -16,8 +15,8 @@ use Rattle.refusals.proofs.Refusing.{refuses, accepts}
 use Rattle.sections.specs.Sections.{pastPatterns, functionsOf, patternsOf}
 use Rattle.sections.specs.Order.{sectionsRefusal, allKnown}
 use Rattle.sections.proofs.Back.{Bytes}
-use Rattle.sections.proofs.Counts.{length-functions, length-patterns, past-is, functions-are}
-use Rattle.sections.proofs.Sound.{Sound, sound, sound-of, sections-within}
+use Rattle.sections.proofs.Counts.{past-is, functions-are}
+use Rattle.sections.proofs.Sound.{Sound, sound-of, sections-within, Counted, counted-of, none-of}
 use Rattle.listing.specs.Answered.{answered}
 use Rattle.listing.proofs.Counts.{size-is}
 use Rattle.listing.proofs.Calls.{Accepted, sections-first, bytes-after, output-last, refused-call, accepted-result, writes-answered}
@@ -54,47 +53,40 @@ module _ (c : tie.Else1) where
   abbrev found : Sections
   found = c .before .before .read-sections .result
 
-  all-sound : Sound b
-  all-sound =
+  none : isNone (sectionsRefusal b) ≡ true
+  none =
       let n = c .before .number in
-      let e : found .refusal ≡ sectionsRefusal b = ap (λ (s : Sections). s .refusal) (c .before .before .read-sections .ensures) in
-      sound-of b (subst (λ (r : Refusal). isNone r ≡ true) e (accepts (found .refusal) (n .result) (n .ensures) (c .if1 .left)))
+      none-of b (sectionsRefusal b) found (c .before .before .read-sections .ensures) (accepts (found .refusal) (n .result) (n .ensures) (c .if1 .left))
 
-  functions-is : found .functions ≡ length (functionsOf b)
-  functions-is = ap (λ (s : Sections). s .functions) (c .before .before .read-sections .ensures) ∙ rw (sound b all-sound)
+  all-sound : Sound b
+  all-sound = sound-of b none
 
-  patterns-is : found .patterns ≡ length (patternsOf b)
-  patterns-is = ap (λ (s : Sections). s .patterns) (c .before .before .read-sections .ensures) ∙ rw (sound b all-sound)
-
-  few : found .functions ≤ 10
-  few = omega (arith, functions-is, length-functions b, all-sound .functions .high)
-
-  some : found .patterns ≤ 1024
-  some = omega (arith, patterns-is, length-patterns b, all-sound .patterns .high)
+  counts : Counted b found
+  counts = counted-of b (sectionsRefusal b) found (c .before .before .read-sections .ensures) none all-sound
 
   count : found .functions * found .patterns ≤ 10240
-  count = mul-le-mul few some
+  count = mul-le-mul (counts .few) (counts .some)
 
   past : pastPatterns b ≡ 4 + 2 * found .functions + 2 * found .patterns
-  past = past-is b (found .functions) (found .patterns) functions-is patterns-is
+  past = past-is b (found .functions) (found .patterns) (counts .functions) (counts .patterns)
 
   size : length (answered (functionsOf b) (patternsOf b)) ≡ 4 + 2 * found .functions + 2 * found .patterns + 2 + 2 * (found .functions * found .patterns)
-  size = size-is b (found .functions) (found .patterns) functions-is patterns-is
+  size = size-is b (found .functions) (found .patterns) (counts .functions) (counts .patterns)
 
 mul-end : tie.Need-mul-end
-mul-end c = omega (arith, few c)
+mul-end c = omega (arith, counts c .few)
 
 add-end : tie.Need-add-end
-add-end c = omega (arith, few c)
+add-end c = omega (arith, counts c .few)
 
 mul-end-2 : tie.Need-mul-end-2
-mul-end-2 c = omega (arith, some c)
+mul-end-2 c = omega (arith, counts c .some)
 
 add-end-2 : tie.Need-add-end-2
-add-end-2 c = omega (arith, few c, some c)
+add-end-2 c = omega (arith, counts c .few, counts c .some)
 
 add-written : tie.Need-add-written
-add-written c = omega (arith, few c, some c)
+add-written c = omega (arith, counts c .few, counts c .some)
 
 mul-written : tie.Need-mul-written
 mul-written c = omega (arith, count c)
@@ -103,7 +95,7 @@ mul-written-2 : tie.Need-mul-written-2
 mul-written-2 c = omega (arith, count c)
 
 add-written-2 : tie.Need-add-written-2
-add-written-2 c = omega (arith, few c, some c, count c)
+add-written-2 c = omega (arith, counts c .few, counts c .some, count c)
 
 refused-requires-2 : tie.Need-refused-requires-2
 refused-requires-2 c κs = search needs
@@ -126,7 +118,7 @@ returns-3 c =
 write-answered-requires : tie.Need-write-answered-requires
 write-answered-requires c κs =
     let d = c .before .before .before in
-    let known = ap allKnown (functions-are (b d) (found d .functions) (found d .patterns) (functions-is d) (patterns-is d)) ∙ all-sound d .all-known in (
+    let known = ap allKnown (functions-are (b d) (found d .functions) (found d .patterns) (counts d .functions) (counts d .patterns)) ∙ all-sound d .all-known in (
       omega (arith, past d, sections-within (b d) (all-sound d)),
       (known, (omega (arith, count d), omega (arith, past d, sections-within (b d) (all-sound d), count d))),
     )
@@ -140,7 +132,7 @@ returns-4 c =
     let a : Accepted (b d) (length (output d)) =
     record { sections = all-sound d; nothing-after = omega (arith, past d); room = omega (arith, size d) } in
     let bytes : Bytes (b d) = λ i. d .before .before .before .before .shared-slice-known .given i .fits in
-    let w = writes-answered (b d) (output d) (found d .functions) (found d .patterns) (functions-is d) (patterns-is d) bytes a in
+    let w = writes-answered (b d) (output d) (found d .functions) (found d .patterns) (counts d .functions) (counts d .patterns) bytes a in
     (accepted-result (b d) (output d) _ a (size d), cc w)
 
 pub answer-listing-spec : {M : Type 1} → statement M

@@ -17,32 +17,14 @@ loop-holds c = search needs
 sub-loop : tie.Need-sub-loop Inv-loop μ-loop
 sub-loop c = search needs
 
-shared-slice-read-number : tie.Need-shared-slice-read-number Inv-loop μ-loop
-shared-slice-read-number c = search needs
+number-at-requires : tie.Need-number-at-requires Inv-loop μ-loop
+number-at-requires c κs = search needs
 
-add-number : tie.Need-add-number Inv-loop μ-loop
-add-number c = search needs
+add-number-at : tie.Need-add-number-at Inv-loop μ-loop
+add-number-at c = search needs
 
-shared-slice-read-number-2 : tie.Need-shared-slice-read-number-2 Inv-loop μ-loop
-shared-slice-read-number-2 c = search needs
-
-number-requires : tie.Need-number-requires Inv-loop μ-loop
-number-requires c κs = search needs
-
-add-number-2 : tie.Need-add-number-2 Inv-loop μ-loop
-add-number-2 c = search needs
-
-shared-slice-read-number-3 : tie.Need-shared-slice-read-number-3 Inv-loop μ-loop
-shared-slice-read-number-3 c = search needs
-
-add-number-3 : tie.Need-add-number-3 Inv-loop μ-loop
-add-number-3 c = search needs
-
-shared-slice-read-number-4 : tie.Need-shared-slice-read-number-4 Inv-loop μ-loop
-shared-slice-read-number-4 c = search needs
-
-number-requires-2 : tie.Need-number-requires-2 Inv-loop μ-loop
-number-requires-2 c κs = search needs
+number-at-requires-2 : tie.Need-number-at-requires-2 Inv-loop μ-loop
+number-at-requires-2 c κs = search needs
 
 cast-length : tie.Need-cast-length Inv-loop μ-loop
 cast-length c = search needs
@@ -91,15 +73,9 @@ try-all-spec =
     μ-loop
     loop-holds
     sub-loop
-    shared-slice-read-number
-    add-number
-    shared-slice-read-number-2
-    number-requires
-    add-number-2
-    shared-slice-read-number-3
-    add-number-3
-    shared-slice-read-number-4
-    number-requires-2
+    number-at-requires
+    add-number-at
+    number-at-requires-2
     cast-length
     add-start
     sub-if1
