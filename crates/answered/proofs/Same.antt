@@ -42,7 +42,9 @@ same-snoc vs ws x y e q = rw (same-lists vs ws e, q) (same-refl (ws ++ (y ∷ []
 module _ (b c : List ℕ) (at : ℕ) where
   pub same-next : (n : ℕ) → same (numbersAt b at n) (numbersAt c at n) ≡ true → numberAt b (at + 2 * n) ≡ numberAt c (at + 2 * n)
       → same (numbersAt b at (n + 1)) (numbersAt c at (n + 1)) ≡ true
-  same-next n e q = rw (numbersAt-next b at n, numbersAt-next c at n) (same-snoc (numbersAt b at n) (numbersAt c at n) (numberAt b (at + 2 * n)) (numberAt c (at + 2 * n)) e q)
+  same-next n e q =
+      rw (numbersAt-next b at n, numbersAt-next c at n)
+      (same-snoc (numbersAt b at n) (numbersAt c at n) (numberAt b (at + 2 * n)) (numberAt c (at + 2 * n)) e q)
 
 numbers-same-at : (b c : List ℕ) (at n i : ℕ) → i < n → numbersAt b at n ≡ numbersAt c at n → numberAt b (at + 2 * i) ≡ numberAt c (at + 2 * i)
 numbers-same-at b c at n i h e = sym (number-of b at n i h) ∙ ap (λ (l : List ℕ). getD l i 0) e ∙ number-of c at n i h

@@ -93,7 +93,8 @@ module _ (b : List ℕ) (bytes : Bytes b) (w : Complete b) where
   form-count = length-numbersAt b (pastPatterns b + 2) (numberAt b (pastPatterns b)) ∙ w .count
 
 pub only-forms : (b c : List ℕ) → Bytes b → Bytes c → pairRefusal b c ≡ None
-    → (b ≡ form (functionsOf b) (patternsOf b) (answersOf b)) × (c ≡ form (functionsOf b) (patternsOf b) (answersOf c)) × Listable (functionsOf b) (patternsOf b)
+    → (b ≡ form (functionsOf b) (patternsOf b) (answersOf b)) × (c ≡ form (functionsOf b) (patternsOf b) (answersOf c))
+    × Listable (functionsOf b) (patternsOf b)
 only-forms b c bytes other e =
     let a = agreed-of b c (ap isNone e) in (
       is-form b bytes (a .first),

@@ -58,5 +58,6 @@ module _ (b c : List ℕ) (functions patterns : ℕ) where
         let below : n < length (asked fs ps) = omega (arith, all-asked) in
         ap (λ (p : Place). lineOf (p .function) (p .pattern) (p .first) (p .second))
         (place-at (asked fs ps) (answersAt b functions patterns) (answersAt c functions patterns) first-answers second-answers n below)
-        ∙ ap (λ (q : Ask). lineOf (q .function) (q .pattern) (getD (answersAt b functions patterns) n 0) (getD (answersAt c functions patterns) n 0)) asked-there
+        ∙ ap (λ (q : Ask). lineOf (q .function) (q .pattern) (getD (answersAt b functions patterns) n 0) (getD (answersAt c functions patterns) n 0))
+        asked-there
         ∙ (rw (number-of b at (functions * patterns) n h, number-of c at (functions * patterns) n h))

@@ -48,7 +48,9 @@ module _ (c : tie.Else1) where
   one = c .before .before .read-answered .result
 
   first-found : Found b one
-  first-found = found b one (c .before .before .read-answered .ensures) (accepts (one .refusal) (c .before .number .result) (c .before .number .ensures) (c .if1 .left))
+  first-found =
+      found b one (c .before .before .read-answered .ensures)
+      (accepts (one .refusal) (c .before .number .result) (c .before .number .ensures) (c .if1 .left))
 
 read-answered-requires-2 : tie.Need-read-answered-requires-2
 read-answered-requires-2 c κs = search needs
@@ -87,7 +89,8 @@ returns-3 c =
     let e = c .before .before .before in
     let x = first-found (d e) in
     let y = second-found e in
-    let apart : functionsOf (b (d e)) ≡ functionsOf (other (d e)) → ⊥ = λ q. c .before .if3 .taken (x .counts .functions ∙ ap length q ∙ sym (y .counts .functions)) in
+    let apart : functionsOf (b (d e)) ≡ functionsOf (other (d e)) → ⊥ =
+    λ q. c .before .if3 .taken (x .counts .functions ∙ ap length q ∙ sym (y .counts .functions)) in
     c .refused3 .ensures ∙ refused-counts (b (d e)) Different (functions-differ (b (d e)) (other (d e)) (x .complete) (y .complete) apart) refl
 
 refused-requires-4 : tie.Need-refused-requires-4
@@ -98,7 +101,8 @@ returns-4 c =
     let e = c .before .before .before .before .before in
     let x = first-found (d e) in
     let y = second-found e in
-    let apart : patternsOf (b (d e)) ≡ patternsOf (other (d e)) → ⊥ = λ q. c .before .if4 .taken (x .counts .patterns ∙ ap length q ∙ sym (y .counts .patterns)) in
+    let apart : patternsOf (b (d e)) ≡ patternsOf (other (d e)) → ⊥ =
+    λ q. c .before .if4 .taken (x .counts .patterns ∙ ap length q ∙ sym (y .counts .patterns)) in
     c .refused4 .ensures ∙ refused-counts (b (d e)) Different (patterns-differ (b (d e)) (other (d e)) (x .complete) (y .complete) apart) refl
 
 module _ (c : tie.Else4) where

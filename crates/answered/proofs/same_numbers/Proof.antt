@@ -36,7 +36,8 @@ returns : tie.Need-returns Inv-loop μ-loop
 returns c =
     let a = c .before .before .before .before .before .before .before .args in
     let i = c .before .before .before .before .loop .i in
-    sym (differs-at (now (a .first)) (now (a .second)) (a .at) (a .count) i (omega arith) (λ e. c .if1 .taken (c .before .before .number-at .ensures ∙ e ∙ sym (c .before .number-at2 .ensures))))
+    sym (differs-at (now (a .first)) (now (a .second)) (a .at) (a .count) i (omega arith)
+    (λ e. c .if1 .taken (c .before .before .number-at .ensures ∙ e ∙ sym (c .before .number-at2 .ensures))))
 
 add-i : tie.Need-add-i Inv-loop μ-loop
 add-i c = search needs

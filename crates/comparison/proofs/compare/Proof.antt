@@ -75,7 +75,8 @@ returns-2 : tie.Need-returns-2
 returns-2 c =
     let d = c .before .before in
     let a = entry d .args in
-    let e = no-room (now (a .first)) (now (a .second)) (found d) (both d) (a .short) (length (now (a .output))) (omega (arith, c .before .most-lines .ensures)) in
+    let e = no-room (now (a .first)) (now (a .second)) (found d) (both d) (a .short) (length (now (a .output)))
+    (omega (arith, c .before .most-lines .ensures)) in
     said (now (a .first)) (now (a .second)) (a .short) (now (a .output)) [] 0 (now (a .output)) e (omega arith) refl refl
 
 write-lines-requires : tie.Need-write-lines-requires

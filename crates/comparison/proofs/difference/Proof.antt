@@ -22,7 +22,8 @@ returns c =
     let n = refuses r (c .before .number .result) (c .before .number .ensures) (c .if1 .taken) in
     refused-place (now (a .first)) (now (a .second)) r (sym (ap (λ (s : Sections). s .refusal) (found .ensures))) n (a .from)
 
-both : (c : tie.Else1) → let a = c .before .before .before .before .before .args in Read (now (a .first)) (now (a .second)) (c .before .before .read-pair .result)
+both : (c : tie.Else1) → let a = c .before .before .before .before .before .args in
+    Read (now (a .first)) (now (a .second)) (c .before .before .read-pair .result)
 both c =
     let a = c .before .before .before .before .before .args in
     let found = c .before .before .read-pair in
@@ -36,7 +37,8 @@ returns-2 : tie.Need-returns-2
 returns-2 c =
     let d = c .before in
     let a = d .before .before .before .before .before .args in
-    next-found (now (a .first)) (now (a .second)) (d .before .before .read-pair .result) (both d) (a .from) (c .next-difference .result) (c .next-difference .ensures)
+    next-found (now (a .first)) (now (a .second)) (d .before .before .read-pair .result) (both d) (a .from)
+    (c .next-difference .result) (c .next-difference .ensures)
 
 pub difference-spec : {M : Type 1} → statement M
 difference-spec =

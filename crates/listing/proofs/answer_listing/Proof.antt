@@ -118,7 +118,8 @@ returns-3 c =
 write-answered-requires : tie.Need-write-answered-requires
 write-answered-requires c κs =
     let d = c .before .before .before in
-    let known = ap allKnown (functions-are (b d) (found d .functions) (found d .patterns) (counts d .functions) (counts d .patterns)) ∙ all-sound d .all-known in (
+    let known = ap allKnown (functions-are (b d) (found d .functions) (found d .patterns) (counts d .functions) (counts d .patterns))
+    ∙ all-sound d .all-known in (
       omega (arith, past d, sections-within (b d) (all-sound d)),
       (known, (omega (arith, count d), omega (arith, past d, sections-within (b d) (all-sound d), count d))),
     )

@@ -109,7 +109,8 @@ returns c =
     let put = c .before .before .put-line in
     let s = start (c .before .before .before .before .before .before .before .before) in
     let l = now (s .args .output) in
-    let e : fitted (length l - s .args .at) (line c) ≡ lineAt (now (s .args .first)) (now (s .args .second)) (s .args .functions) (s .args .patterns) (s .args .place) =
+    let e : fitted (length l - s .args .at) (line c)
+    ≡ lineAt (now (s .args .first)) (now (s .args .second)) (s .args .functions) (s .args .patterns) (s .args .place) =
     fitted-all (length l - s .args .at) (line c) (omega (arith, s .pre)) ∙ line-is c in
     (put .ensures .0 ∙ ap length e, put .ensures .1 ∙ ap (sets l (s .args .at)) e)
 

@@ -110,10 +110,12 @@ module _ (c : tie.After-next-difference Inv-loop μ-loop) where
   -- where no place is left, the lines written are all
   finished : next ≡ functions * patterns
       → (c .before .before .loop .at ≡ length (shown (entry .args .short) (differing (placesAt first second functions patterns))))
-      × (c .before .before .loop .output ≡ sets (now (entry .args .output)) 0 (shown (entry .args .short) (differing (placesAt first second functions patterns))))
+      × (c .before .before .loop .output
+      ≡ sets (now (entry .args .output)) 0 (shown (entry .args .short) (differing (placesAt first second functions patterns))))
   finished last =
       let l = c .before .before .loop in
-      let e = to-the-end qs xs ys one two (entry .args .short) place (sym (c .next-difference .ensures) ∙ last ∙ sym count) (omega (arith, reached, one)) (l .inv .5) in
+      let e = to-the-end qs xs ys one two (entry .args .short) place (sym (c .next-difference .ensures) ∙ last ∙ sym count)
+      (omega (arith, reached, one)) (l .inv .5) in
       (l .inv .3 ∙ ap length (sym e), l .inv .4 ∙ ap (sets (now (entry .args .output)) 0) (sym e))
 
 returns : tie.Need-returns Inv-loop μ-loop
@@ -169,7 +171,8 @@ write-line-requires c κs =
 
 -- after the line is written
 more : (c : tie.After-write-line Inv-loop μ-loop) → let b = c .before .before in
-    Written (now (entry (n b) .args .output)) 0 (lines (n b) ++ line b) (n b .before .before .loop .at + c .write-line .result) (c .write-line .last .1 .1 .1 .1 .1 .0)
+    Written (now (entry (n b) .args .output)) 0 (lines (n b) ++ line b) (n b .before .before .loop .at + c .write-line .result)
+    (c .write-line .last .1 .1 .1 .1 .1 .0)
 more c =
     let b = c .before .before in
     let l = n b .before .before .loop in

@@ -17,7 +17,9 @@ use Rattle.listing.proofs.rows.write_row.Tie as tie
 use Rattle.p16e1.proofs.answer_or_nar.Reads as answer-or-nar-reads
 
 abbrev Inv-loop : tie.InvT-loop
-Inv-loop function input from patterns output₀ to i₀ output i = (i ≤ patterns) × (length output ≡ length output₀) × (output ≡ sets output₀ to (bytesOfAll (map (answerOf function) (numbersAt input from i))))
+Inv-loop function input from patterns output₀ to i₀ output i =
+    (i ≤ patterns) × (length output ≡ length output₀)
+    × (output ≡ sets output₀ to (bytesOfAll (map (answerOf function) (numbersAt input from i))))
 
 abbrev μ-loop : tie.MeasureT-loop
 μ-loop function input from patterns output₀ to i₀ output i = patterns - i
@@ -93,7 +95,8 @@ loop-again c =
     let l = c .before .before .before .before .loop in
     let first = c .before .before .before .before .before .before .before in
     let a = first .args in
-    let e = c .answer-or-nar .ensures ∙ ap (λ (b : Bool). cond b (answerOf (a .function) (numberAt (now (a .input)) (a .from + 2 * l .i))) 0x8000) (first .pre .0) in
+    let e = c .answer-or-nar .ensures ∙ ap (λ (b : Bool). cond b (answerOf (a .function) (numberAt (now (a .input)) (a .from + 2 * l .i))) 0x8000)
+    (first .pre .0) in
     let s : a .to + 2 * l .i + 1 ≡ suc (a .to + 2 * l .i) = add-one (a .to + 2 * l .i) in
     (omega arith, search needs, cc (row-next (now (a .output)) (a .to) (a .function) (now (a .input)) (a .from) (l .i)))
 
