@@ -94,11 +94,13 @@ module _ (b : List ℕ) (bytes : Bytes b) (w : Complete b) where
 
 pub only-forms : (b c : List ℕ) → Bytes b → Bytes c → pairRefusal b c ≡ None
     → (b ≡ form (functionsOf b) (patternsOf b) (answersOf b)) × (c ≡ form (functionsOf b) (patternsOf b) (answersOf c))
-    × Listable (functionsOf b) (patternsOf b)
+    × Listable (functionsOf b) (patternsOf b) × (length (answersOf b) ≡ asks b) × (length (answersOf c) ≡ asks c)
 only-forms b c bytes other e =
     let a = agreed-of b c (ap isNone e) in (
       is-form b bytes (a .first),
       is-form c other (a .second) ∙ sym (ap (λ (fs : List ℕ). form fs (patternsOf b) (answersOf c)) (a .functions)
           ∙ ap (λ (ps : List ℕ). form (functionsOf c) ps (answersOf c)) (a .patterns)),
       form-listable b bytes (a .first),
+      form-count b bytes (a .first),
+      form-count c other (a .second),
     )

@@ -1,8 +1,8 @@
--- How long listings get: no listing is longer than 2,072 bytes, and a call writes no more than the output holds.
+-- How long listings get: none is longer than 2,072 bytes.
 use Prim.Native.Nat.{ℕ, _+_, _*_, _≤_, _<_}
 use mathlib.Core.Path.{_≡_, refl}
-use mathlib.Core.Bool.{Bool, true, false, cond}
-use mathlib.Core.List.{List, []}
+use mathlib.Core.Bool.{Bool, true, false}
+use mathlib.Core.List.{List}
 use native.Mathlib.Omega.{arith}
 use lib.ListN.{length}
 use Rattle.refusals.specs.Refusals.{isNone}
@@ -10,8 +10,7 @@ use Rattle.sections.specs.Sections.{functionsOf, patternsOf, pastPatterns}
 use Rattle.sections.specs.Order.{mostFunctions, mostPatterns}
 use Rattle.sections.proofs.Counts.{length-functions, length-patterns, past-is}
 use Rattle.sections.proofs.Sound.{Sound}
-use Rattle.listing.specs.Answered.{answered}
-use Rattle.listing.specs.Outcome.{refusalOf, writes}
+use Rattle.listing.specs.Outcome.{refusalOf}
 use Rattle.listing.proofs.Calls.{accepted-of}
 
 abbrev pub longest : ℕ
@@ -34,11 +33,3 @@ long-refused b outputs h = go (isNone (refusalOf b outputs)) refl
     go : (t : Bool) → isNone (refusalOf b outputs) ≡ t → t ≡ false
     go true e = let a = accepted-of b outputs e in absurd (omega (arith, a .nothing-after, sound-short b (a .sections)))
     go false e = refl
-
-pub writes-fit : (b : List ℕ) (outputs : ℕ) → length (writes b outputs) ≤ outputs
-unfolding writes
-writes-fit b outputs = go (isNone (refusalOf b outputs)) refl
-  where
-    go : (t : Bool) → isNone (refusalOf b outputs) ≡ t → length (cond t (answered (functionsOf b) (patternsOf b)) []) ≤ outputs
-    go true e = accepted-of b outputs e .room
-    go false e = omega arith
