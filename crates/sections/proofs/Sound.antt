@@ -1,17 +1,18 @@
 -- Which refusal of the two sections comes first, and what holds of them where none does.
-use Prim.Native.Nat.{ℕ, _≤_}
+use Prim.Native.Nat.{ℕ, _+_, _*_, _≤_}
 use mathlib.Core.Path.{_≡_, refl, sym, ap, _∙_}
 use mathlib.Core.Bool.{Bool, true, false, cond, not, false≢true}
 use mathlib.Core.List.{List}
 use native.Mathlib.Omega.{arith}
+use native.Mathlib.Nat.{mul-le-mul}
 use lib.ListN.{length}
 use Rattle.refusals.specs.declared.Refusal.{Refusal}
 use Rattle.refusals.specs.declared.Refusal.the-variants.{None, Function}
 use Rattle.refusals.specs.Refusals.{isNone, _before_, refusedWhen}
 use Rattle.sections.specs.declared.Sections.{Sections}
 use Rattle.sections.specs.Sections.{pastSection, functionsOf, patternsOf, pastPatterns}
-use Rattle.sections.specs.Order.{mostFunctions, mostPatterns, sectionRefusal, allKnown, sectionsRefusal, counted}
-use Rattle.sections.proofs.Counts.{length-functions, length-patterns}
+use Rattle.sections.specs.Order.{mostFunctions, mostPatterns, sectionRefusal, allKnown, sectionsRefusal, counted, sectionsOf}
+use Rattle.sections.proofs.Counts.{length-functions, length-patterns, past-is}
 use Rattle.sections.proofs.Whole.{Whole, whole, whole-of}
 
 -- sections that are not refused
@@ -64,7 +65,7 @@ pub found-counts : (b : List ℕ) {s : Refusal} (functions patterns : ℕ) → s
     → record { functions = functions; patterns = patterns; refusal = None } ≡ counted b s
 found-counts b functions patterns e f p = rw (e, f, p)
 
-pub sections-within : (b : List ℕ) → Sound b → pastPatterns b ≤ length b
+sections-within : (b : List ℕ) → Sound b → pastPatterns b ≤ length b
 unfolding pastPatterns
 sections-within b s = s .patterns .present
 
@@ -89,3 +90,24 @@ counted-of b r s e n w =
 -- its refusal is the definition's
 pub none-of : (b : List ℕ) (r : Refusal) (s : Sections) → s ≡ counted b r → isNone (s .refusal) ≡ true → isNone r ≡ true
 none-of b r s e n = sym (ap (λ (t : Sections). isNone (t .refusal)) e) ∙ n
+
+-- what a call has that reads the two sections and goes on, since they are not refused
+pub record Read (b : List ℕ) (s : Sections) : Type 0 where
+  pub sound : Sound b
+  pub counts : Counted b s
+  pub answers : s .functions * s .patterns ≤ mostFunctions * mostPatterns
+  pub past : pastPatterns b ≡ 4 + 2 * s .functions + 2 * s .patterns
+  pub within : pastPatterns b ≤ length b
+
+pub read : (b : List ℕ) (s : Sections) → s ≡ sectionsOf b → isNone (s .refusal) ≡ true → Read b s
+read b s e n =
+    let none = none-of b (sectionsRefusal b) s e n in
+    let w = sound-of b none in
+    let c = counted-of b (sectionsRefusal b) s e none w in
+    record {
+      sound = w;
+      counts = c;
+      answers = mul-le-mul (c .few) (c .some);
+      past = past-is b (s .functions) (s .patterns) (c .functions) (c .patterns);
+      within = sections-within b w;
+    }

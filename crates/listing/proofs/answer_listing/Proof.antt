@@ -1,22 +1,19 @@
 -- `listing::answer_listing` meets its contract: each return is one of the cases of `Calls`.
 use borrow.Author.Needs.{needs}
-use Prim.Native.Nat.{ℕ, _+_, _*_, _≤_}
+use Prim.Native.Nat.{ℕ, _+_, _*_}
 use mathlib.Core.Path.{_≡_, refl, ap, _∙_}
-use mathlib.Core.Bool.{true}
 use mathlib.Core.List.{List}
 use native.Mathlib.Omega.{arith}
-use native.Mathlib.Nat.{mul-le-mul}
 use denote.Ref.{now}
 use lib.ListN.{length}
 use Rattle.refusals.specs.declared.Refusal.the-variants.{Output, After}
 use Rattle.sections.specs.declared.Sections.{Sections}
-use Rattle.refusals.specs.Refusals.{isNone}
 use Rattle.refusals.proofs.Refusing.{refuses, accepts}
-use Rattle.sections.specs.Sections.{pastPatterns, functionsOf, patternsOf}
-use Rattle.sections.specs.Order.{sectionsRefusal, allKnown}
+use Rattle.sections.specs.Sections.{functionsOf, patternsOf}
+use Rattle.sections.specs.Order.{allKnown}
 use Rattle.sections.proofs.Back.{Bytes}
-use Rattle.sections.proofs.Counts.{past-is, functions-are}
-use Rattle.sections.proofs.Sound.{Sound, sound-of, sections-within, Counted, counted-of, none-of}
+use Rattle.sections.proofs.Counts.{functions-are}
+use Rattle.sections.proofs.Sound.{Read, read}
 use Rattle.listing.specs.Answered.{answered}
 use Rattle.listing.proofs.Counts.{size-is}
 use Rattle.listing.proofs.Calls.{Accepted, sections-first, bytes-after, output-last, refused-call, accepted-result, writes-answered}
@@ -53,49 +50,35 @@ module _ (c : tie.Else1) where
   abbrev found : Sections
   found = c .before .before .read-sections .result
 
-  none : isNone (sectionsRefusal b) ≡ true
-  none =
-      let n = c .before .number in
-      none-of b (sectionsRefusal b) found (c .before .before .read-sections .ensures) (accepts (found .refusal) (n .result) (n .ensures) (c .if1 .left))
-
-  all-sound : Sound b
-  all-sound = sound-of b none
-
-  counts : Counted b found
-  counts = counted-of b (sectionsRefusal b) found (c .before .before .read-sections .ensures) none all-sound
-
-  count : found .functions * found .patterns ≤ 10240
-  count = mul-le-mul (counts .few) (counts .some)
-
-  past : pastPatterns b ≡ 4 + 2 * found .functions + 2 * found .patterns
-  past = past-is b (found .functions) (found .patterns) (counts .functions) (counts .patterns)
+  have : Read b found
+  have = let n = c .before .number in read b found (c .before .before .read-sections .ensures) (accepts (found .refusal) (n .result) (n .ensures) (c .if1 .left))
 
   size : length (answered (functionsOf b) (patternsOf b)) ≡ 4 + 2 * found .functions + 2 * found .patterns + 2 + 2 * (found .functions * found .patterns)
-  size = size-is b (found .functions) (found .patterns) (counts .functions) (counts .patterns)
+  size = size-is b (found .functions) (found .patterns) (have .counts .functions) (have .counts .patterns)
 
 mul-end : tie.Need-mul-end
-mul-end c = omega (arith, counts c .few)
+mul-end c = omega (arith, have c .counts .few)
 
 add-end : tie.Need-add-end
-add-end c = omega (arith, counts c .few)
+add-end c = omega (arith, have c .counts .few)
 
 mul-end-2 : tie.Need-mul-end-2
-mul-end-2 c = omega (arith, counts c .some)
+mul-end-2 c = omega (arith, have c .counts .some)
 
 add-end-2 : tie.Need-add-end-2
-add-end-2 c = omega (arith, counts c .few, counts c .some)
+add-end-2 c = omega (arith, have c .counts .few, have c .counts .some)
 
 add-written : tie.Need-add-written
-add-written c = omega (arith, counts c .few, counts c .some)
+add-written c = omega (arith, have c .counts .few, have c .counts .some)
 
 mul-written : tie.Need-mul-written
-mul-written c = omega (arith, count c)
+mul-written c = omega (arith, have c .answers)
 
 mul-written-2 : tie.Need-mul-written-2
-mul-written-2 c = omega (arith, count c)
+mul-written-2 c = omega (arith, have c .answers)
 
 add-written-2 : tie.Need-add-written-2
-add-written-2 c = omega (arith, counts c .few, counts c .some, count c)
+add-written-2 c = omega (arith, have c .counts .few, have c .counts .some, have c .answers)
 
 refused-requires-2 : tie.Need-refused-requires-2
 refused-requires-2 c κs = search needs
@@ -103,7 +86,7 @@ refused-requires-2 c κs = search needs
 returns-2 : tie.Need-returns-2
 returns-2 c =
     let d = c .before .before in
-    let q = refused-call (b d) (output d) After (bytes-after (b d) (length (output d)) (all-sound d) (omega (arith, past d))) refl in
+    let q = refused-call (b d) (output d) After (bytes-after (b d) (length (output d)) (have d .sound) (omega (arith, have d .past))) refl in
     (c .refused2 .ensures ∙ q .0, q .1)
 
 refused-requires-3 : tie.Need-refused-requires-3
@@ -112,16 +95,16 @@ refused-requires-3 c κs = search needs
 returns-3 : tie.Need-returns-3
 returns-3 c =
     let d = c .before .before .before in
-    let q = refused-call (b d) (output d) Output (output-last (b d) (length (output d)) (all-sound d) (omega (arith, past d)) (omega (arith, size d))) refl in
+    let q = refused-call (b d) (output d) Output (output-last (b d) (length (output d)) (have d .sound) (omega (arith, have d .past)) (omega (arith, size d))) refl in
     (c .refused3 .ensures ∙ q .0, q .1)
 
 write-answered-requires : tie.Need-write-answered-requires
 write-answered-requires c κs =
     let d = c .before .before .before in
-    let known = ap allKnown (functions-are (b d) (found d .functions) (found d .patterns) (counts d .functions) (counts d .patterns))
-    ∙ all-sound d .all-known in (
-      omega (arith, past d, sections-within (b d) (all-sound d)),
-      (known, (omega (arith, count d), omega (arith, past d, sections-within (b d) (all-sound d), count d))),
+    let known = ap allKnown (functions-are (b d) (found d .functions) (found d .patterns) (have d .counts .functions) (have d .counts .patterns))
+    ∙ have d .sound .all-known in (
+      omega (arith, have d .past, have d .within),
+      (known, (omega (arith, have d .answers), omega (arith, have d .past, have d .within, have d .answers))),
     )
 
 same-length : tie.Need-same-length
@@ -131,9 +114,9 @@ returns-4 : tie.Need-returns-4
 returns-4 c =
     let d = c .before .before .before .before .before .before in
     let a : Accepted (b d) (length (output d)) =
-    record { sections = all-sound d; nothing-after = omega (arith, past d); room = omega (arith, size d) } in
+    record { sections = have d .sound; nothing-after = omega (arith, have d .past); room = omega (arith, size d) } in
     let bytes : Bytes (b d) = λ i. d .before .before .before .before .shared-slice-known .given i .fits in
-    let w = writes-answered (b d) (output d) (found d .functions) (found d .patterns) (counts d .functions) (counts d .patterns) bytes a in
+    let w = writes-answered (b d) (output d) (found d .functions) (found d .patterns) (have d .counts .functions) (have d .counts .patterns) bytes a in
     (accepted-result (b d) (output d) _ a (size d), cc w)
 
 pub answer-listing-spec : {M : Type 1} → statement M
