@@ -1,0 +1,181 @@
+-- "A NaR anywhere in angles or arm makes all three parts NaR", and nothing else does: of real angles and a real arm no step
+-- answers NaR, nor anything beyond sixteen bits.
+use Prim.Native.Nat.{ℕ, _+_, _%_, _<_}
+use mathlib.Core.Path.{_≡_, _∙_, ap, sym, subst}
+use mathlib.Core.Bool.{Bool, true, false, _||_, cond}
+use native.Mathlib.Omega.{arith}
+use borrow.Author.Tests.{ne-eqb}
+use lib.Dec.{lit≤, eqb, leb}
+use lib.IntN.{ℤ, pos, negsuc, natAbs, _+ℤ_, _*ℤ_}
+use Rattle.posit.specs.Number.{Number, nar, real, number, size, opposite}
+use Rattle.posit.specs.Rounding.{Known, nought, plus, minus, over, Rounds}
+use Rattle.posit.proofs.Complement.{opposite-twice, opposite-some, opposite-zero}
+use Rattle.posit.proofs.Exists.{answered}
+use Rattle.rows.specs.Rows.{Row, names, rounds, within, opposed, bySign}
+use Rattle.p16e1.specs.Functions.{rowOf, answerTo, answerOf}
+use Rattle.circular.specs.Quadrants.{quadrant, rest, odd, reflected}
+use Rattle.circular.specs.SinPi as SinPi
+use Rattle.circular.specs.CosPi as CosPi
+use Rattle.arithmetic.specs.Operations.{sum, product}
+use Rattle.arithmetic.specs.Sizes.{signedUnits}
+use Rattle.arithmetic.proofs.Exact.{number-units}
+use Rattle.arithmetic.proofs.Opposites.{only-nar, opposite-fits}
+use Rattle.arithmetic.proofs.Laws.{nar-itself, rounds-no-nar}
+use Rattle.turning.specs.Turn as Turn
+use Rattle.turning.specs.Turn.{Three, Matrix, three, part, row, column, times, entry, entries, rowTimes, matrixTimes, armTimes, headingMatrix, pitchMatrix, rollMatrix, sine, cosine, anyNar, turned}
+
+-- a pattern of sixteen bits that is not NaR
+abbrev pub Real : ℕ → Type 0
+Real p = (p < 0x10000) × (p ≡ 0x8000 → ⊥)
+
+-- a row that does not answer NaR
+abbrev Sound : Row → Type 0
+Sound (names u) = Real u
+Sound (rounds x) = Unit {0}
+
+rounds-fits : (x : Known) (r : ℕ) → Rounds 1 16 x r → r < 0x10000
+rounds-fits nought r h = omega arith
+rounds-fits (plus c) r h = let m = h .most in omega arith
+rounds-fits (minus c) r h = opposite-some 16 r (h .least) .1
+
+sound-answer : (w : Row) → Sound w → Real (answerTo w)
+sound-answer (names u) s = s
+sound-answer (rounds x) s =
+    let m = answered 1 16 (lit≤ tt) x in
+    (rounds-fits x (answerTo (rounds x)) m, rounds-no-nar x (answerTo (rounds x)) m)
+
+pub minus-real : (p : ℕ) → Real p → Real (opposite 16 p)
+minus-real p r = (
+  opposite-fits p,
+  λ e. let s = opposite-some 16 p (omega (arith, e)) in r .1 (sym (opposite-twice 16 p (s .0) (s .1)) ∙ ap (opposite 16) e ∙ nar-itself),
+)
+
+either : (b : Bool) (v w : Row) → Sound v → Sound w → Sound (cond b v w)
+either true v w sv sw = sv
+either false v w sv sw = sw
+
+opposed-sound : (w : Row) → Sound w → Sound (opposed w)
+opposed-sound (names u) s = minus-real u s
+opposed-sound (rounds x) s = tt
+
+one-or-zero : (b : Bool) → Real (cond b 0x4000 0) × Real (cond b 0 0x4000)
+one-or-zero true = ((omega arith, λ e. omega arith), (omega arith, λ e. omega arith))
+one-or-zero false = ((omega arith, λ e. omega arith), (omega arith, λ e. omega arith))
+
+-- the answer in a quadrant, by a rest that is 0 or by the kernel, with its sign
+in-quadrant : (b : Bool) (r u : ℕ) (x : Known) → Real u → Sound (cond b (opposed (cond (eqb r 0) (names u) (rounds x))) (cond (eqb r 0) (names u) (rounds x)))
+in-quadrant b r u x s =
+    let w = cond (eqb r 0) (names u) (rounds x) in
+    let sw = either (eqb r 0) (names u) (rounds x) s tt in
+    either b (opposed w) w (opposed-sound w sw) sw
+
+sine-sound : (k : ℕ) → Sound (SinPi.sine k)
+unfolding SinPi.sine SinPi.unsigned
+sine-sound k =
+    let q = quadrant k in
+    let r = rest k in
+    in-quadrant (leb 2 q) r (cond (odd q) 0x4000 0) (over (pos (SinPi.poly (reflected q r))) 28) (one-or-zero (odd q) .0)
+
+cosine-sound : (k : ℕ) → Sound (CosPi.cosine k)
+unfolding CosPi.cosine CosPi.unsigned
+cosine-sound k =
+    let q = quadrant k in
+    let r = rest k in
+    in-quadrant (leb 2 ((q + 1) % 4)) r (cond (odd q) 0 0x4000) (over (pos (CosPi.poly (reflected q r))) 25) (one-or-zero (odd q) .1)
+
+by-sign-sound : (q : ℤ) → Sound (bySign SinPi.sine q)
+by-sign-sound (pos k) = sine-sound k
+by-sign-sound (negsuc k) = opposed-sound (SinPi.sine _) (sine-sound _)
+
+pub sine-real : (p : ℕ) → Real p → Real (sine p)
+unfolding answerOf rowOf SinPi.row
+sine-real p r =
+    sound-answer (SinPi.row p)
+    (either (within 31744 0x7fff (size 16 p)) (names 0) (SinPi.otherwise (number 1 16 p)) (omega arith, λ e. omega arith)
+    (rw (number-units p (r .1)) (by-sign-sound (signedUnits p))))
+
+pub cosine-real : (p : ℕ) → Real p → Real (cosine p)
+unfolding answerOf rowOf CosPi.row
+cosine-real p r = sound-answer (CosPi.row p) (rw (number-units p (r .1)) (cosine-sound _))
+
+pub plus-real : (a b : ℕ) → Real a → Real b → Real (Turn.plus a b)
+unfolding Turn.plus sum
+plus-real a b r s = sound-answer (sum a b) (rw (number-units a (r .1), number-units b (s .1)) tt)
+
+pub times-real : (a b : ℕ) → Real a → Real b → Real (times a b)
+unfolding times product
+times-real a b r s = sound-answer (product a b) (rw (number-units a (r .1), number-units b (s .1)) tt)
+
+abbrev pub Reals : Three → Type 0
+Reals a = Real (part 0 a) × Real (part 1 a) × Real (part 2 a)
+
+abbrev RealRows : Matrix → Type 0
+RealRows m = Reals (row 0 m) × Reals (row 1 m) × Reals (row 2 m)
+
+entry-real : (a b : Three) → Reals a → Reals b → Real (entry a b)
+unfolding entry
+entry-real a b r s =
+    let first = times-real (part 0 a) (part 0 b) (r .0) (s .0) in
+    let second = times-real (part 1 a) (part 1 b) (r .1) (s .1) in
+    let third = times-real (part 2 a) (part 2 b) (r .2) (s .2) in
+    plus-real _ _ (plus-real _ _ first second) third
+
+row-real : (a : Three) (n : Matrix) → Reals a → RealRows n → Reals (rowTimes a n)
+row-real a n r s =
+    let column-real : (k : ℕ) → Real (part k (row 0 n)) → Real (part k (row 1 n)) → Real (part k (row 2 n)) → Real (entry a (column k n))
+    = λ k x y z. entry-real a (column k n) r (x, y, z) in
+    (column-real 0 (s .0 .0) (s .1 .0) (s .2 .0), column-real 1 (s .0 .1) (s .1 .1) (s .2 .1), column-real 2 (s .0 .2) (s .1 .2) (s .2 .2))
+
+matrix-real : (m n : Matrix) → RealRows m → RealRows n → RealRows (matrixTimes m n)
+unfolding matrixTimes
+matrix-real m n r s = (row-real (row 0 m) n (r .0) s, row-real (row 1 m) n (r .1) s, row-real (row 2 m) n (r .2) s)
+
+arm-real : (m : Matrix) (arm : Three) → RealRows m → Reals arm → Reals (armTimes m arm)
+unfolding armTimes
+arm-real m arm r s = (entry-real (row 0 m) arm (r .0) s, entry-real (row 1 m) arm (r .1) s, entry-real (row 2 m) arm (r .2) s)
+
+zero-real : Real 0
+zero-real = (omega arith, λ e. omega arith)
+
+one-real : Real 0x4000
+one-real = (omega arith, λ e. omega arith)
+
+module _ (p : ℕ) (r : Real p) where
+  s : Real (sine p)
+  s = sine-real p r
+
+  c : Real (cosine p)
+  c = cosine-real p r
+
+  m : Real (Turn.minus (sine p))
+  m = minus-real (sine p) s
+
+  heading-real : RealRows (headingMatrix p)
+  unfolding headingMatrix
+  heading-real = ((c, m, zero-real), (s, c, zero-real), (zero-real, zero-real, one-real))
+
+  pitch-real : RealRows (pitchMatrix p)
+  unfolding pitchMatrix
+  pitch-real = ((c, zero-real, s), (zero-real, one-real, zero-real), (m, zero-real, c))
+
+  roll-real : RealRows (rollMatrix p)
+  unfolding rollMatrix
+  roll-real = ((one-real, zero-real, zero-real), (zero-real, c, m), (zero-real, s, c))
+
+module _ (heading pitch roll : ℕ) (arm : Three) where
+  pub nar-anywhere : anyNar (three heading pitch roll) || anyNar arm ≡ true → turned heading pitch roll arm ≡ three 0x8000 0x8000 0x8000
+  unfolding turned
+  nar-anywhere e = rw e
+
+  pub nar-nowhere : Reals (three heading pitch roll) → Reals arm → Reals (turned heading pitch roll arm)
+  unfolding turned
+  nar-nowhere (h, p, r) x =
+      rw (
+        ne-eqb heading 0x8000 (h .1),
+        ne-eqb pitch 0x8000 (p .1),
+        ne-eqb roll 0x8000 (r .1),
+        ne-eqb (part 0 arm) 0x8000 (x .0 .1),
+        ne-eqb (part 1 arm) 0x8000 (x .1 .1),
+        ne-eqb (part 2 arm) 0x8000 (x .2 .1),
+      )
+      (arm-real _ arm (matrix-real _ (rollMatrix roll) (matrix-real (headingMatrix heading) (pitchMatrix pitch) (heading-real heading h) (pitch-real pitch p)) (roll-real roll r)) x)
