@@ -1,6 +1,6 @@
 // The ten functions of softposit 0.4.0 and those of balehasp on the same inputs, called one by one through pointers of one
-// type; then the batch and the listing beside plain loops over the Rust functions. Prints nanoseconds a call or a pattern,
-// the median of several runs that take turns, and the ratio. The clock is the thread's own, which stands still while other
+// type; then the batch and the listing beside plain loops over the Rust functions; then the operations and the turn, which have
+// no Rust beside them. Prints nanoseconds a call or a pattern, the median of several runs that take turns, and the ratio. The clock is the thread's own, which stands still while other
 // programs have the processor. With the words `count SIDE WORK` one side does one thing once and nothing is printed, for a
 // tool that counts instructions.
 mod original;
@@ -9,6 +9,7 @@ use original::P16E1;
 use std::hint::black_box;
 
 type Function = extern "C" fn(u16) -> u16;
+type Operation = extern "C" fn(u16, u16) -> u16;
 
 macro_rules! sides {
     ($($name:ident $theirs:ident $ours:ident)*) => {
@@ -21,6 +22,10 @@ macro_rules! sides {
         #[link(name = "balehasp", kind = "static")]
         unsafe extern "C" {
             $(safe fn $ours(p: u16) -> u16;)*
+            safe fn balehasp_add(a: u16, b: u16) -> u16;
+            safe fn balehasp_subtract(a: u16, b: u16) -> u16;
+            safe fn balehasp_multiply(a: u16, b: u16) -> u16;
+            fn balehasp_turn(heading: u16, pitch: u16, roll: u16, arm: *const [u16; 3], turned: *mut [u16; 3]);
             fn balehasp_batch(function: u16, input: *const u16, inputs: usize, output: *mut u16, outputs: usize, start: usize, limit: usize, next: *mut usize, nars: *mut usize) -> u16;
             fn balehasp_listing(input: *const u8, inputs: usize, output: *mut u8, outputs: usize, written: *mut usize) -> u16;
         }
@@ -87,6 +92,26 @@ fn our_batch(function: usize, input: &[u16], output: &mut [u16]) -> usize {
 
 fn number_at(bytes: &[u8], at: usize) -> u16 {
     u16::from_le_bytes([bytes[at], bytes[at + 1]])
+}
+
+// Each pattern with the one after it.
+#[inline(never)]
+fn operate(f: Operation, inputs: &[u16]) -> u64 {
+    inputs.windows(2).map(|two| u64::from(f(two[0], two[1]))).sum()
+}
+
+// Each six patterns in a row: three angles and an arm.
+#[inline(never)]
+fn turn(inputs: &[u16]) -> u64 {
+    let mut turned = [0; 3];
+    inputs
+        .windows(6)
+        .map(|six| {
+            // SAFETY: both places live through the call and are apart.
+            unsafe { balehasp_turn(six[0], six[1], six[2], &[six[3], six[4], six[5]], &mut turned) };
+            turned.iter().map(|&part| u64::from(part)).sum::<u64>()
+        })
+        .sum()
 }
 
 // A listing that is in order, answered.
@@ -162,6 +187,18 @@ fn line(what: &str, (theirs, ours): (f64, f64)) {
     println!("{what:<34} {theirs:>8.2} {ours:>8.2} {:>7.2}", ours / theirs);
 }
 
+// What has no Rust beside it.
+fn alone<T: PartialEq + std::fmt::Debug>(what: &str, units: usize, work: impl Fn() -> T) {
+    println!("{what:<34} {:>8} {:>8.2}", "", pair(units, &work, &work).1);
+}
+
+fn operations(order: &str, inputs: &[u16]) {
+    for (name, f) in [("add", balehasp_add as Operation), ("subtract", balehasp_subtract), ("multiply", balehasp_multiply)] {
+        alone(&format!("{name}, {order}"), inputs.len() - 1, || operate(f, inputs));
+    }
+    alone(&format!("turn, {order}"), inputs.len() - 5, || turn(inputs));
+}
+
 fn functions(order: &str, inputs: &[u16]) {
     let mut sums = (0.0, 0.0);
     for (name, theirs, ours) in FUNCTIONS {
@@ -226,4 +263,6 @@ fn main() {
         batches(&random[..length]);
     }
     listings(&random[..1024]);
+    operations("in order", &in_order);
+    operations("random order", &random);
 }

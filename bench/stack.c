@@ -29,6 +29,17 @@ static void functions(void)
             sink = entries[f]((uint16_t)p);
 }
 
+static void operations(void)
+{
+    uint16_t arm[3] = {0x4321, 0x5432, 0xB111};
+    for (unsigned p = 0; p < 65536; p++) {
+        sink = balehasp_add((uint16_t)p, 0x4321);
+        sink = balehasp_subtract((uint16_t)p, 0x4321);
+        sink = balehasp_multiply((uint16_t)p, 0x4321);
+        balehasp_turn((uint16_t)p, 0x2345, 0xD234, arm, arm);
+    }
+}
+
 static void by_number(void)
 {
     uint16_t answer;
@@ -87,8 +98,9 @@ int main(void)
         listing[25 + 2 * i] = (uint8_t)(input[i] >> 8);
     }
     size_t none = used(nothing);
-    printf("stack, at most, with the caller's own frame: the ten functions %zu, answer %zu, batch %zu, listing %zu, reals %zu bytes\n",
-           used(functions) - none, used(by_number) - none, used(batch) - none, used(answer_listing) - none, used(reals) - none);
+    printf("stack, at most, with the caller's own frame: the ten functions %zu, the operations and the turn %zu, answer %zu, "
+           "batch %zu, listing %zu, reals %zu bytes\n", used(functions) - none, used(operations) - none, used(by_number) - none,
+           used(batch) - none, used(answer_listing) - none, used(reals) - none);
     if (refused)
         fputs("stack: a batch or the listing was refused, so its bytes are not those of the work\n", stderr);
     return refused;

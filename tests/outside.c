@@ -17,6 +17,7 @@
 #include <unistd.h>
 
 #include "balehasp.h"
+#include "model.h"
 
 #define FUNCTIONS 10
 #define PATTERNS 65536
@@ -117,6 +118,122 @@ static void each_function(void)
     expect(balehasp_answer(1, 0, NULL) == 0 && balehasp_answer(0, 0, NULL) == BALEHASP_REFUSED_FUNCTION, "no place for the answer", 0, 0);
     puts("655360 answers by ten entries, and again by number: all as the Rust's");
     puts("65526 unknown function numbers: refused, nothing written");
+}
+
+/* ---- the operations and the turn */
+
+/* A pattern: any, or one of those at which answers are special. */
+static uint16_t some_pattern(void)
+{
+    static const uint16_t special[] = {0, 1, 2, 0x2000, 0x3000, 0x3FFF, 0x4000, 0x4001, 0x5000, 0x7FFE, 0x7FFF, 0x8000, 0x8001, 0xC000, 0xFFFF};
+    return below(8) ? (uint16_t)noise() : special[below(sizeof special / sizeof *special)];
+}
+
+static void operations(void)
+{
+    for (unsigned i = 0; i < rounds; i++) {
+        uint16_t a = some_pattern(), b = some_pattern(), minus = (uint16_t)(0x10000u - b);
+        expect(balehasp_negate(b) == minus, "minus a posit", b, balehasp_negate(b));
+        expect(balehasp_add(a, b) == model_add(a, b), "a sum", a, b);
+        expect(balehasp_subtract(a, b) == model_add(a, minus), "a difference", a, b);
+        expect(balehasp_multiply(a, b) == model_multiply(a, b), "a product", a, b);
+    }
+    printf("%u sums, differences and products: as the exact model's\n", rounds);
+}
+
+typedef struct {
+    uint16_t parts[3];
+} Three;
+
+typedef struct {
+    Three rows[3];
+} Matrix;
+
+/* The three matrices by their axes: the plane that turns takes the axis `from` towards the axis `to`. */
+static Matrix model_matrix(uint16_t angle, int from, int to)
+{
+    uint16_t sine = answers[BALEHASP_SIN_PI - 1][angle], cosine = answers[BALEHASP_COS_PI - 1][angle];
+    Matrix m = {{{{0x4000, 0, 0}}, {{0, 0x4000, 0}}, {{0, 0, 0x4000}}}};
+    m.rows[from].parts[from] = m.rows[to].parts[to] = cosine;
+    m.rows[to].parts[from] = sine;
+    m.rows[from].parts[to] = (uint16_t)(0x10000u - sine);
+    return m;
+}
+
+static Three model_column(Matrix m, int k) { return (Three){{m.rows[0].parts[k], m.rows[1].parts[k], m.rows[2].parts[k]}}; }
+
+static uint16_t model_entry(Three row, Three column)
+{
+    uint16_t sum = model_multiply(row.parts[0], column.parts[0]);
+    for (int k = 1; k < 3; k++)
+        sum = model_add(sum, model_multiply(row.parts[k], column.parts[k]));
+    return sum;
+}
+
+static Three model_turn(uint16_t heading, uint16_t pitch, uint16_t roll, Three arm)
+{
+    Matrix m = model_matrix(heading, 0, 1), factors[2] = {model_matrix(pitch, 2, 0), model_matrix(roll, 1, 2)};
+    bool nar = heading == MODEL_NAR || pitch == MODEL_NAR || roll == MODEL_NAR;
+    Three turned;
+    for (int f = 0; f < 2; f++) {
+        Matrix product;
+        for (int i = 0; i < 3; i++)
+            for (int k = 0; k < 3; k++)
+                product.rows[i].parts[k] = model_entry(m.rows[i], model_column(factors[f], k));
+        m = product;
+    }
+    for (int i = 0; i < 3; i++)
+        nar = nar || arm.parts[i] == MODEL_NAR;
+    for (int i = 0; i < 3; i++)
+        turned.parts[i] = nar ? MODEL_NAR : model_entry(m.rows[i], arm);
+    return turned;
+}
+
+static Guarded arms, turns_out;
+
+/* One turn of the bytes at `from` into those at `to`, which may be the same, overlap or be none. */
+static Three one_turn(uint16_t heading, uint16_t pitch, uint16_t roll, uint8_t *from, uint8_t *to)
+{
+    Three arm = {{MODEL_NAR, MODEL_NAR, MODEL_NAR}};
+    if (from)
+        memcpy(&arm, from, sizeof arm);
+    keep(&arms);
+    keep(&turns_out);
+    Three wants = model_turn(heading, pitch, roll, arm);
+    balehasp_turn(heading, pitch, roll, (const uint16_t *)(const void *)from, (uint16_t *)(void *)to);
+    Guarded *lent = to && arms.bytes <= to && to < arms.bytes + arms.size ? &arms : &turns_out;
+    if (to)
+        memcpy(lent->before + (to - lent->bytes), &wants, sizeof wants);
+    expect_same(&arms, "a turn, at the arm", heading, pitch);
+    expect_same(&turns_out, "a turn, at the turned arm", heading, pitch);
+    return wants;
+}
+
+static void turns(void)
+{
+    arms = guarded(1);
+    turns_out = guarded(1);
+    unsigned nars = 0, in_place = 0, overlapping = 0, without = 0;
+    for (unsigned i = 0; i < rounds; i++) {
+        bool at_end = below(2);
+        uint8_t *from = place(&arms, sizeof(Three), at_end), *to = place(&turns_out, sizeof(Three), below(2));
+        Three arm = {{some_pattern(), some_pattern(), some_pattern()}};
+        memcpy(from, &arm, sizeof arm);
+        switch (below(8)) {
+        case 0: to = from, in_place++; break;
+        case 1: to = from + (at_end ? -1 : 1) * (int)(1 + below(5)), overlapping++; break; /* unaligned too */
+        case 2:
+            if (below(2))
+                from = NULL;
+            else
+                to = NULL;
+            without++;
+            break;
+        }
+        nars += one_turn(some_pattern(), some_pattern(), some_pattern(), from, to).parts[2] == MODEL_NAR;
+    }
+    printf("%u turns, %u in place, %u into an overlap, %u without an arm or a place: as the model's, %u NaR\n",
+           rounds, in_place, overlapping, without, nars);
 }
 
 /* ---- the batch */
@@ -939,7 +1056,10 @@ int main(int words, char **word)
     state = strtoull(word[3], NULL, 0);
     printf("version %s, %u rounds, seed %" PRIu64 "\n", BALEHASP_VERSION, rounds, state);
     read_answers(word[1]);
+    model_start();
     each_function();
+    operations();
+    turns();
     batches();
     listings();
     differences();

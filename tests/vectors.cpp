@@ -1,5 +1,5 @@
 // The header from C++: what an empty std::vector hands over, answers in the patterns' own place, every difference of two
-// answered listings, and the result types.
+// answered listings, an arm turned in its own place, and the result types.
 #include <cstdio>
 #include <cstdlib>
 #include <type_traits>
@@ -58,9 +58,21 @@ static void answered_listings()
     expect(difference(first, second, 0, &place) == BALEHASP_REFUSED_DIFFERENT && place == 7, "vectors that ask other things");
 }
 
+static void arms()
+{
+    const uint16_t quarter = 0x3000;
+    std::vector<uint16_t> arm{0x4000, 0, 0};
+    balehasp_turn(quarter, 0, 0, arm.data(), arm.data());
+    expect(arm == std::vector<uint16_t>({0, 0x4000, 0}), "a heading of a quarter turn, in place");
+    balehasp_turn(0, 0, BALEHASP_NAR, arm.data(), arm.data());
+    expect(arm == std::vector<uint16_t>(3, BALEHASP_NAR), "a roll that is NaR, in place");
+    expect(balehasp_subtract(balehasp_add(0x4000, 0x4000), balehasp_multiply(0x4000, balehasp_negate(0xB000))) == 0, "2 - 1 * 2");
+}
+
 int main()
 {
     answered_listings();
+    arms();
     std::vector<uint16_t> none, patterns(1000, 0x4000);
     std::vector<uint8_t> no_bytes, room(BALEHASP_LONGEST_ANSWERED);
     size_t next = 7, nars = 7, written = 7;

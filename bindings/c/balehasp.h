@@ -1,5 +1,5 @@
-/* balehasp: ten functions of 16-bit posits with one exponent bit, with a batch, a listing, the differences of two answered
- * listings, conversions with double, and spans.
+/* balehasp: ten functions of 16-bit posits with one exponent bit, with negation, sums, differences and products, the turn of a
+ * lever arm, a batch, a listing, the differences of two answered listings, conversions with double, and spans.
  *
  * A posit is passed as its pattern, a uint16_t. 0x0000 is zero and 0x8000 is NaR ("not a real"). NaR is an answer and not an
  * error: ln of a negative number is NaR, and a call that answers it has succeeded.
@@ -21,9 +21,9 @@
 #include <string.h>
 
 #define BALEHASP_VERSION_MAJOR 0
-#define BALEHASP_VERSION_MINOR 3
+#define BALEHASP_VERSION_MINOR 4
 #define BALEHASP_VERSION_PATCH 0
-#define BALEHASP_VERSION "0.3.0"
+#define BALEHASP_VERSION "0.4.0"
 
 /* Has the compiler warn where a result is dropped. */
 #if (defined __cplusplus && __cplusplus >= 201703L) || (defined __STDC_VERSION__ && __STDC_VERSION__ > 201710L)
@@ -87,6 +87,24 @@ BALEHASP_MUST_USE uint16_t balehasp_tan_pi(uint16_t p);
 BALEHASP_MUST_USE uint16_t balehasp_atan_pi(uint16_t p);
 BALEHASP_MUST_USE uint16_t balehasp_asin_pi(uint16_t p);
 BALEHASP_MUST_USE uint16_t balehasp_acos_pi(uint16_t p);
+
+/* Minus p, a + b, a - b and a * b, for all patterns: the exact result, rounded once. NaR with anything is NaR, zero times NaR
+ * too; of two numbers none is. A result that is a posit's number is that posit, so a - a is 0; no other result is 0, and none
+ * goes past 0x7FFF or 0x8001: two tiny numbers have the product 0x0001 or 0xFFFF. */
+BALEHASP_MUST_USE uint16_t balehasp_negate(uint16_t p);
+BALEHASP_MUST_USE uint16_t balehasp_add(uint16_t a, uint16_t b);
+BALEHASP_MUST_USE uint16_t balehasp_subtract(uint16_t a, uint16_t b);
+BALEHASP_MUST_USE uint16_t balehasp_multiply(uint16_t a, uint16_t b);
+
+/* Turns the arm, three posits along the first, second and third axis, and writes the three parts to `turned`. The angles are
+ * half-turns: roll about the first axis, then pitch about the second, then heading about the third, each counter-clockwise as
+ * seen from the axis's positive end. With the matrices of the three, the sines and cosines of balehasp_sin_pi and
+ * balehasp_cos_pi in them, it is ((heading times pitch) times roll) times the arm, every product rounded, every sum rounded and
+ * taken left to right: docs/TURN.md has the matrices and how far 16 bits are from the exact turn.
+ * NaR in any angle or any part of the arm makes all three parts NaR, and nothing else makes any part NaR. There is no refusal.
+ * `turned` may be `arm` or overlap it: the arm is read before anything is written. Where `turned` is NULL nothing is written;
+ * where `arm` is NULL all three parts are NaR. Neither needs to be aligned. */
+void balehasp_turn(uint16_t heading, uint16_t pitch, uint16_t roll, const uint16_t arm[3], uint16_t turned[3]);
 
 /* The function with that number, of p: writes the answer to *answer and returns 0. Refusal: 1, with *answer as it was, which
  * is stale then. */
@@ -180,6 +198,16 @@ BALEHASP_MUST_USE static inline uint16_t balehasp_answer_checked(uint16_t functi
     if (refusal == 0)
         balehasp_give(answer, &found, sizeof found);
     return refusal;
+}
+
+/* The arm is copied before it is lent, so that what is lent to be read is not lent to be written. */
+static inline void balehasp_turn_checked(uint16_t heading, uint16_t pitch, uint16_t roll, const uint16_t *arm, uint16_t *turned)
+{
+    uint16_t from[3] = {BALEHASP_NAR, BALEHASP_NAR, BALEHASP_NAR}, to[3] = {0, 0, 0};
+    if (arm)
+        memcpy(from, arm, sizeof from);
+    balehasp_turn(heading, pitch, roll, from, to);
+    balehasp_give(turned, to, sizeof to);
 }
 
 /* A batch whose answers take the patterns' places. Each piece of the patterns is copied first, so that what is lent to be read
@@ -292,6 +320,7 @@ BALEHASP_MUST_USE static inline bool balehasp_span_checked(uint16_t p, double *l
 }
 
 #define balehasp_answer balehasp_answer_checked
+#define balehasp_turn balehasp_turn_checked
 #define balehasp_batch balehasp_batch_checked
 #define balehasp_listing balehasp_listing_checked
 #define balehasp_difference balehasp_difference_checked

@@ -1,5 +1,5 @@
-//! Ten functions of 16-bit posits with one exponent bit, with a batch, a listing, the differences of two answered listings,
-//! conversions with `f64`, and spans.
+//! Ten functions of 16-bit posits with one exponent bit, with negation, sums, differences and products, the turn of a lever arm,
+//! a batch, a listing, the differences of two answered listings, conversions with `f64`, and spans.
 //!
 //! A posit is passed as its pattern, a `u16`. `0x0000` is zero and [`NAR`] is NaR ("not a real"). NaR is an answer and not an
 //! error: `ln` of a negative number is NaR, and a call that answers it has succeeded. What a call can refuse is a [`Refusal`];
@@ -223,6 +223,11 @@ functions! {
 
 // The other entries. A slice goes over as a pointer and a length.
 extern "C" {
+    fn balehasp_negate(p: u16) -> u16;
+    fn balehasp_add(a: u16, b: u16) -> u16;
+    fn balehasp_subtract(a: u16, b: u16) -> u16;
+    fn balehasp_multiply(a: u16, b: u16) -> u16;
+    fn balehasp_turn(heading: u16, pitch: u16, roll: u16, arm: *const [u16; 3], turned: *mut [u16; 3]);
     fn balehasp_answer(function: u16, p: u16, answer: *mut u16) -> u16;
     fn balehasp_batch(
         function: u16,
@@ -253,6 +258,79 @@ extern "C" {
     fn balehasp_to_f64(p: u16, real: *mut f64) -> bool;
     fn balehasp_from_f64(x: f64) -> u16;
     fn balehasp_span(p: u16, lower: *mut f64, upper: *mut f64) -> bool;
+}
+
+/// Minus p. NaR and zero are their own.
+///
+/// ```
+/// assert_eq!(balehasp::negate(0x4000), 0xC000);
+/// assert_eq!(balehasp::negate(balehasp::NAR), balehasp::NAR);
+/// ```
+#[must_use]
+pub fn negate(p: u16) -> u16 {
+    // SAFETY: the entry takes and gives a number, and takes every one.
+    unsafe { balehasp_negate(p) }
+}
+
+/// The exact a + b, rounded once. NaR with anything is NaR.
+///
+/// ```
+/// use balehasp::{add, NAR};
+/// assert_eq!(add(0x4000, 0x4000), 0x5000);
+/// assert_eq!(add(0x4000, NAR), NAR);
+/// ```
+#[must_use]
+pub fn add(a: u16, b: u16) -> u16 {
+    // SAFETY: as in `negate`.
+    unsafe { balehasp_add(a, b) }
+}
+
+/// The exact a - b, rounded once. NaR with anything is NaR.
+///
+/// ```
+/// use balehasp::{subtract, NAR};
+/// assert_eq!(subtract(0x1234, 0x1234), 0x0000);
+/// assert_eq!(subtract(NAR, NAR), NAR);
+/// ```
+#[must_use]
+pub fn subtract(a: u16, b: u16) -> u16 {
+    // SAFETY: as in `negate`.
+    unsafe { balehasp_subtract(a, b) }
+}
+
+/// The exact a * b, rounded once. NaR with anything is NaR, zero times NaR too. No product but that of zero is zero.
+///
+/// ```
+/// use balehasp::{multiply, NAR};
+/// assert_eq!(multiply(0x5000, 0x5000), 0x6000);
+/// assert_eq!(multiply(0x0001, 0x0001), 0x0001);
+/// assert_eq!(multiply(0x0000, NAR), NAR);
+/// ```
+#[must_use]
+pub fn multiply(a: u16, b: u16) -> u16 {
+    // SAFETY: as in `negate`.
+    unsafe { balehasp_multiply(a, b) }
+}
+
+/// The arm, its parts along the first, second and third axis, turned by roll about the first axis, then pitch about the second,
+/// then heading about the third, each in half-turns and counter-clockwise as seen from the axis's positive end.
+///
+/// With the matrices of the three it is ((heading times pitch) times roll) times the arm, every product and every sum rounded,
+/// sums taken left to right. NaR in any angle or any part of the arm makes all three parts NaR, and nothing else makes any part
+/// NaR.
+///
+/// ```
+/// use balehasp::{turn, NAR};
+/// let quarter = 0x3000;
+/// assert_eq!(turn(quarter, 0, 0, [0x4000, 0, 0]), [0, 0x4000, 0]);
+/// assert_eq!(turn(NAR, 0, 0, [0x4000, 0, 0]), [NAR; 3]);
+/// ```
+#[must_use]
+pub fn turn(heading: u16, pitch: u16, roll: u16, arm: [u16; 3]) -> [u16; 3] {
+    let mut turned = [0; 3];
+    // SAFETY: both places live through the call and do not overlap.
+    unsafe { balehasp_turn(heading, pitch, roll, &arm, &mut turned) };
+    turned
 }
 
 /// The function with that number, of p, for a number from outside. Refused: `Function`.

@@ -2,9 +2,9 @@
 //!
 //! The answers are what oracle/record writes; BALEHASP_ANSWERS names the file where it is not in its place in the tree.
 use balehasp::{
-    acos_pi, answer, answer_by_number, asin_pi, atan_pi, batch, batch_by_number, cos_pi, difference, differences, exp, exp2,
-    from_f64, listing, ln, log2, sin_pi, span, tan_pi, to_f64, Batched, Function, Real, Refusal, Span, LONGEST_ANSWERED,
-    LONGEST_LISTING, NAR,
+    acos_pi, add, answer, answer_by_number, asin_pi, atan_pi, batch, batch_by_number, cos_pi, difference, differences, exp,
+    exp2, from_f64, listing, ln, log2, multiply, negate, sin_pi, span, subtract, tan_pi, to_f64, turn, Batched, Function, Real,
+    Refusal, Span, LONGEST_ANSWERED, LONGEST_LISTING, NAR,
 };
 
 const ROUNDS: usize = 100_000;
@@ -405,6 +405,104 @@ fn rounded(dividing: &[f64], x: f64) -> u16 {
     } else {
         magnitude
     }
+}
+
+/// The operations, exactly: numbers are whole numbers of 2^-28, products of 2^-56.
+struct Exact {
+    /// The numbers between the magnitudes u and u + 1, from u = 1 on, in units of 2^-30.
+    dividing: Vec<i128>,
+}
+
+impl Exact {
+    fn new() -> Self {
+        Exact { dividing: (1..0x7FFF).map(|u| (number_of(2 * u + 1, 17) * 2f64.powi(30)) as i128).collect() }
+    }
+
+    fn units(p: u16) -> i128 {
+        match p {
+            0 => 0,
+            _ => (number_of(p.into(), 16) * 2f64.powi(28)) as i128,
+        }
+    }
+
+    /// The pattern of x units of 2^-(30 + finer): one more than the dividing numbers below it, and on one the even neighbour.
+    fn rounded(&self, x: i128, finer: u32) -> u16 {
+        let size = x.abs();
+        let below = self.dividing.partition_point(|&d| (d << finer) < size);
+        let tie = self.dividing.get(below).is_some_and(|&d| (d << finer) == size);
+        let magnitude = match u16::try_from(below + 1).unwrap() {
+            _ if x == 0 => 0,
+            odd if tie && odd % 2 == 1 => odd + 1,
+            magnitude => magnitude,
+        };
+        if x < 0 {
+            magnitude.wrapping_neg()
+        } else {
+            magnitude
+        }
+    }
+
+    fn sum(&self, a: u16, b: u16) -> u16 {
+        if a == NAR || b == NAR {
+            return NAR;
+        }
+        self.rounded(4 * (Self::units(a) + Self::units(b)), 0)
+    }
+
+    fn product(&self, a: u16, b: u16) -> u16 {
+        if a == NAR || b == NAR {
+            return NAR;
+        }
+        self.rounded(Self::units(a) * Self::units(b), 26)
+    }
+
+    fn entry(&self, row: [u16; 3], column: [u16; 3]) -> u16 {
+        let products: Vec<u16> = row.iter().zip(column).map(|(&a, b)| self.product(a, b)).collect();
+        self.sum(self.sum(products[0], products[1]), products[2])
+    }
+
+    fn turned(&self, answers: &Answers, [heading, pitch, roll]: [u16; 3], arm: [u16; 3]) -> [u16; 3] {
+        if [heading, pitch, roll].contains(&NAR) || arm.contains(&NAR) {
+            return [NAR; 3];
+        }
+        let wave = |p| (answers.of(6, p), answers.of(5, p), answers.of(5, p).wrapping_neg());
+        let (c, s, m) = wave(heading);
+        let first = [[c, m, 0], [s, c, 0], [0, 0, 0x4000]];
+        let (c, s, m) = wave(pitch);
+        let second = [[c, 0, s], [0, 0x4000, 0], [m, 0, c]];
+        let (c, s, m) = wave(roll);
+        let third = [[0x4000, 0, 0], [0, c, m], [0, s, c]];
+        let times = |m: [[u16; 3]; 3], n: [[u16; 3]; 3]| {
+            m.map(|row| [0, 1, 2].map(|k| self.entry(row, n.map(|across| across[k]))))
+        };
+        times(times(first, second), third).map(|row| self.entry(row, arm))
+    }
+}
+
+#[test]
+fn operations_and_turns() {
+    const TURNS: usize = 20_000;
+    let (answers, exact) = (Answers::read(), Exact::new());
+    let mut noise = Noise(5);
+    let special = [0, 1, 2, 0x3000, 0x3FFF, 0x4000, 0x5000, 0x7FFE, 0x7FFF, NAR, 0x8001, 0xC000, 0xFFFF];
+    let pattern = |noise: &mut Noise| if noise.below(8) == 0 { special[noise.below(special.len())] } else { noise.pattern() };
+    let check = |a: u16, b: u16| {
+        assert_eq!(negate(b), b.wrapping_neg());
+        assert_eq!(add(a, b), exact.sum(a, b), "{a:#06x} + {b:#06x}");
+        assert_eq!(subtract(a, b), exact.sum(a, b.wrapping_neg()), "{a:#06x} - {b:#06x}");
+        assert_eq!(multiply(a, b), exact.product(a, b), "{a:#06x} * {b:#06x}");
+    };
+    special.iter().for_each(|&a| special.iter().for_each(|&b| check(a, b)));
+    for _ in 0..ROUNDS {
+        check(pattern(&mut noise), pattern(&mut noise));
+    }
+    for _ in 0..TURNS {
+        let angles = [(); 3].map(|()| pattern(&mut noise));
+        let arm = [(); 3].map(|()| pattern(&mut noise));
+        let [heading, pitch, roll] = angles;
+        assert_eq!(turn(heading, pitch, roll, arm), exact.turned(&answers, angles, arm), "{angles:x?} {arm:x?}");
+    }
+    println!("{} pairs of patterns and {TURNS} turns: as the exact model's", special.len().pow(2) + ROUNDS);
 }
 
 #[test]

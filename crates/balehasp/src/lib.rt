@@ -2,4 +2,5 @@
 // carry into numbers and lent places. bindings/c/balehasp.h declares the entries.
 mod calls;
 mod functions;
+mod operations;
 mod reals;
