@@ -1,13 +1,13 @@
 -- The number in a pattern by its units and its sign, and what is worked out from these: a rounding with the sign put back, a
 -- product of signed numbers, and one of significands and powers.
 use Prim.Native.Nat.{ℕ, zero, suc, _+_, _-_, _*_, _^_, _≤_, _<_}
-use mathlib.Core.Path.{_≡_, _∙_, ap, sym, refl, subst}
+use mathlib.Core.Path.{_≡_, _∙_, ap, sym, refl}
 use mathlib.Core.Bool.{Bool, true, false, cond}
 use native.Mathlib.Omega.{arith}
 use native.Mathlib.Decide.{decLt}
 use native.Mathlib.Nat.{zero-mul, mul-zero, mul-one, one-mul, mul-assoc, mul-comm, mul-left-comm, mul-right-comm, mul-pos}
-use borrow.Author.Tests.{ne-eqb, lt-ltb, le-ltb}
-use lib.Dec.{lit≤, eqb, ltb}
+use borrow.Author.Tests.{ne-eqb, le-ltb}
+use lib.Dec.{lit≤}
 use lib.Pow.{pow-pos, pow-add}
 use lib.IntN.{ℤ, pos, negsuc, natAbs, negℤ, _+ℤ_, _-ℤ_, _*ℤ_, zero-*ℤ}
 use lib.Signed.{mag, ltZ}
@@ -16,14 +16,14 @@ use mir.Syntax.{w64}
 use mir.Val.{toZ, ofZ}
 use mir.Facts.{toZ-ofZ}
 use Rattle.posit.specs.Number.{Number, nar, real, number, magnitude, run, size, opposite, withSign}
-use Rattle.posit.specs.Rounding.{Known, ratio, plus, dyadic, over, Rounds}
+use Rattle.posit.specs.Rounding.{Known, plus, dyadic, over, Rounds}
 use Rattle.posit.proofs.Compare.{ratio-same}
 use Rattle.posit.proofs.Complement.{opposite-zero}
 use Rattle.posit.proofs.Dyadic.{dyadic-plus, down-some}
 use Rattle.posit.proofs.Laws.{mirrors}
 use Rattle.posit.proofs.Patterns.{number-zero, number-nar, number-signed}
-use Rattle.rows.specs.Rows.{Row, names, Meets}
-use Rattle.rows.proofs.Whole.{minus-below, minus-above}
+use Rattle.rows.specs.Rows.{Meets}
+use Rattle.rows.proofs.Whole.{minus-below, minus-above, mag-small}
 use Rattle.rows.proofs.Sizes.{proper, no-larger}
 use Rattle.arithmetic.specs.Operations.{ofTwo, sum, product}
 use Rattle.arithmetic.specs.Sizes.{unitsOf, signedUnits}
@@ -56,10 +56,6 @@ pub mag-minus : (m : ℕ) → mag (negℤ (pos m)) ≤ m
 mag-minus zero = omega arith
 mag-minus (suc m) = omega arith
 
-pub mag-signed : (b : Bool) (m : ℕ) → mag (withSign b m) ≤ m
-mag-signed true m = mag-minus m
-mag-signed false m = omega arith
-
 pub signed-abs : (z : ℤ) → withSign (ltZ z (pos 0)) (natAbs z) ≡ z
 signed-abs (pos n) = rw (le-ltb n 0 (omega arith))
 signed-abs (negsuc n) = refl
@@ -76,16 +72,8 @@ times false false m n = refl
 
 pub mag-sum : (x y : ℤ) (k : ℕ) → mag x ≤ k → mag y ≤ k → mag (x +ℤ y) ≤ k + k + 1
 mag-sum (pos a) (pos b) k h j = omega arith
-mag-sum (pos a) (negsuc b) k h j = go (decLt a (suc b))
-  where
-    go : Dec (a < suc b) → mag (pos a +ℤ negsuc b) ≤ k + k + 1
-    go (yes l) = rw (lt-ltb a (suc b) l) (omega arith)
-    go (no l) = rw (le-ltb a (suc b) (omega arith)) (omega arith)
-mag-sum (negsuc a) (pos b) k h j = go (decLt b (suc a))
-  where
-    go : Dec (b < suc a) → mag (negsuc a +ℤ pos b) ≤ k + k + 1
-    go (yes l) = rw (lt-ltb b (suc a) l) (omega arith)
-    go (no l) = rw (le-ltb b (suc a) (omega arith)) (omega arith)
+mag-sum (pos a) (negsuc b) k h j = let m = mag-small a (suc b) (k + 2) (omega arith) (omega arith) in omega (arith, m)
+mag-sum (negsuc a) (pos b) k h j = let m = mag-small b (suc a) (k + 2) (omega arith) (omega arith) in omega (arith, m)
 mag-sum (negsuc a) (negsuc b) k h j = omega arith
 
 up-some : (e : ℤ) → 0 < up e
@@ -112,6 +100,10 @@ regrouped x y s t W Z K H U D e f g =
     ∙ (λ i. sym e i * sym f i * D)
     ∙ (let p : (x * K) * (y * K) * D ≡ x * y * D * (K * K) = simp (mul-assoc, mul-comm, mul-left-comm) in p)
 
+none : (m k : ℕ) → (0 < m → ⊥) → m * k ≡ 0
+none zero k h = zero-mul k
+none (suc m) k h = absurd (h (omega arith))
+
 -- the exact product of two magnitudes that are taken apart
 pub product-scaled : (x y s t w v : ℕ) → x * 2 ^ 12 ≡ s * 2 ^ w → y * 2 ^ 12 ≡ t * 2 ^ v → dyadic (pos (s * t)) (pos (w + v) -ℤ pos 80) ≡ over (pos (x * y)) 56
 product-scaled x y s t w v e f = go (decLt 0 (s * t)) (decLt 0 (x * y))
@@ -125,13 +117,13 @@ product-scaled x y s t w v e f = go (decLt 0 (s * t)) (decLt 0 (x * y))
     go : Dec (0 < s * t) → Dec (0 < x * y) → dyadic (pos (s * t)) E ≡ over (pos (x * y)) 56
     go (yes l) (yes h) =
         dyadic-plus (s * t) E l
-        ∙ ap plus (ratio-same (s * t * up E) (down E) (x * y * 1) (2 ^ 56) (down-some E) (pow-pos 56) (let c = cross in let o = mul-right-comm (x * y) 1 (down E) in omega arith))
+        ∙ ap plus
+        (ratio-same (s * t * up E) (down E) (x * y * 1) (2 ^ 56) (down-some E) (pow-pos 56)
+        (let c = cross in let o = mul-right-comm (x * y) 1 (down E) in omega arith))
         ∙ sym (dyadic-plus (x * y) (negℤ (pos 56)) h)
-    go (yes l) (no h) = absurd (let c = cross in let a = mul-pos l (up-some E) in let z : x * y ≡ 0 = omega arith in let b : x * y * down E ≡ 0 = ap (λ (a : ℕ). a * down E) z ∙ zero-mul (down E) in omega arith)
-    go (no l) (yes h) = absurd (let c = cross in let a = mul-pos h (down-some E) in let z : s * t ≡ 0 = omega arith in let b : s * t * up E ≡ 0 = ap (λ (a : ℕ). a * up E) z ∙ zero-mul (up E) in omega arith)
-    go (no l) (no h) =
-        let z : s * t ≡ 0 = omega arith in let y : x * y ≡ 0 = omega arith in
-        rw (z, y)
+    go (yes l) (no h) = absurd (let c = cross in let a = mul-pos l (up-some E) in let b = none (x * y) (down E) h in omega arith)
+    go (no l) (yes h) = absurd (let c = cross in let a = mul-pos h (down-some E) in let b = none (s * t) (up E) l in omega arith)
+    go (no l) (no h) = let z : s * t ≡ 0 = omega arith in let y : x * y ≡ 0 = omega arith in rw (z, y)
 
 -- an operation on two reals, and NaR with anything
 of-reals : (f : ℤ → ℤ → Known) (p q r : ℕ) → (p ≡ 0x8000 → ⊥) → (q ≡ 0x8000 → ⊥) → Rounds 1 16 (f (signedUnits p) (signedUnits q)) r

@@ -1,25 +1,25 @@
 -- The laws of the operations: one answer, order of the two, signs, what is neutral, exact results, order of the answers.
 use Prim.Native.Nat.{ℕ, zero, suc, _+_, _*_, _^_, _≤_, _<_}
-use mathlib.Core.Path.{_≡_, _∙_, ap, sym, refl, subst}
+use mathlib.Core.Path.{_≡_, _∙_, ap, sym, refl}
 use native.Mathlib.Omega.{arith}
-use native.Mathlib.Nat.{zero-mul, mul-one, mul-le-mul-right}
+use native.Mathlib.Nat.{mul-le-mul-right}
 use lib.Dec.{T, lit≤, leb→le}
-use lib.Pow.{pow-pos}
 use lib.IntN.{ℤ, pos, negsuc, negℤ, _+ℤ_, _-ℤ_, _*ℤ_, +ℤ-idr, +ℤ-invr, +ℤ-comm, *ℤ-comm, zero-*ℤ, *ℤ-zero, negℤ-negℤ, negℤ-+ℤ}
 use lib.Signed.{leZ}
 use lib.Ieee.{up, down}
 use Rattle.posit.specs.Number.{Number, nar, real, number, magnitude, run, opposite}
-use Rattle.posit.specs.Rounding.{Known, nought, plus, minus, ratio, dyadic, over, Rounds, negated}
+use Rattle.posit.specs.Rounding.{Known, nought, plus, minus, ratio, over, Rounds, negated}
 use Rattle.posit.proofs.Compare.{ratio-same}
-use Rattle.posit.proofs.Complement.{opposite-is, opposite-some}
+use Rattle.posit.proofs.Complement.{opposite-is}
 use Rattle.posit.proofs.Dyadic.{dyadic-plus, dyadic-minus, down-some}
 use Rattle.posit.proofs.Fractions.{at-most}
 use Rattle.posit.proofs.Laws.{mirrors, rank, NoMore, same-nought, to-plus, from-minus, across, both-plus, both-minus, in-order}
 use Rattle.posit.proofs.Own.{own}
+use Rattle.posit.proofs.Unique.{AtMost}
 use Rattle.posit.proofs.Patterns.{number-zero, number-plus}
-use Rattle.rows.specs.Rows.{Row, names, rounds, Meets}
+use Rattle.rows.specs.Rows.{rounds, Meets}
 use Rattle.rows.proofs.Straight.{StraightRow, over-straight, one}
-use Rattle.arithmetic.specs.Operations.{ofOne, ofTwo, sum, difference, product}
+use Rattle.arithmetic.specs.Operations.{ofTwo, sum, difference, product}
 use Rattle.arithmetic.proofs.Opposites.{turned, number-opposite, only-nar}
 
 -- any two answers that an operation allows are equal
@@ -145,20 +145,22 @@ unfolding product
 zero-product p a e = rw (e, number-zero 1 16, *ℤ-zero a) refl
 
 -- a larger sum, and a larger product, never gets a smaller answer
-no-more : (m n : ℕ) (e : ℤ) → m ≤ n → m * up e * down e ≤ n * up e * down e
-no-more m n e h = mul-le-mul-right (down e) (mul-le-mul-right (up e) h)
+no-more : (m n : ℕ) (e : ℤ) → m ≤ n → AtMost (ratio (m * up e) (down e)) (ratio (n * up e) (down e))
+no-more m n e h =
+    at-most (m * up e) (down e) (n * up e) (down e) (down-some e) (down-some e) (mul-le-mul-right (down e) (mul-le-mul-right (up e) h))
 
 ordered : (x y : ℤ) (k : ℕ) → T (leZ x y) → NoMore (over x k) (over y k)
 ordered (pos zero) (pos zero) k h = same-nought
 ordered (pos zero) (pos (suc n)) k h = to-plus
 ordered (pos (suc m)) (pos zero) k h = absurd (let f = leb→le (suc m) 0 h in omega arith)
-ordered (pos (suc m)) (pos (suc n)) k h = let e = negℤ (pos k) in both-plus (at-most (suc m * up e) (down e) (suc n * up e) (down e) (down-some e) (down-some e) (no-more (suc m) (suc n) e (leb→le (suc m) (suc n) h)))
+ordered (pos (suc m)) (pos (suc n)) k h = both-plus (no-more (suc m) (suc n) (negℤ (pos k)) (leb→le (suc m) (suc n) h))
 ordered (pos m) (negsuc n) k h = absurd h
 ordered (negsuc m) (pos zero) k h = from-minus
 ordered (negsuc m) (pos (suc n)) k h = across
-ordered (negsuc m) (negsuc n) k h = let e = negℤ (pos k) in both-minus (at-most (suc n * up e) (down e) (suc m * up e) (down e) (down-some e) (down-some e) (no-more (suc n) (suc m) e (let l = leb→le n m h in omega arith)))
+ordered (negsuc m) (negsuc n) k h = both-minus (no-more (suc n) (suc m) (negℤ (pos k)) (let l = leb→le n m h in omega arith))
 
-module _ (p q p' q' r s : ℕ) (a b a' b' : ℤ) (is : number 1 16 p ≡ real a) (is2 : number 1 16 q ≡ real b) (is3 : number 1 16 p' ≡ real a') (is4 : number 1 16 q' ≡ real b') where
+module _ (p q p' q' r s : ℕ) (a b a' b' : ℤ) (is : number 1 16 p ≡ real a) (is2 : number 1 16 q ≡ real b)
+    (is3 : number 1 16 p' ≡ real a') (is4 : number 1 16 q' ≡ real b') where
   pub sum-in-order : T (leZ (a +ℤ b) (a' +ℤ b')) → Meets (sum p q) r → Meets (sum p' q') s → rank 16 r ≤ rank 16 s
   unfolding sum
   sum-in-order h m n =

@@ -1,18 +1,18 @@
 -- Minus a pattern's number is the number of the opposite pattern: so the opposite is what negation rounds to, and a difference
 -- is the sum with the opposite.
-use Prim.Native.Nat.{ℕ, zero, suc, _+_, _-_, _%_, _^_, _≤_, _<_}
-use mathlib.Core.Path.{_≡_, _∙_, ap, sym, refl, subst}
+use Prim.Native.Nat.{ℕ, _+_, _-_, _≤_, _<_}
+use mathlib.Core.Path.{_≡_, _∙_, ap, sym, refl}
 use native.Mathlib.Omega.{arith}
 use native.Mathlib.Decide.{decLt, ℕ-discrete}
 use native.Mathlib.Nat.{mod-lt}
 use lib.Dec.{lit≤}
 use lib.IntN.{ℤ, pos, negℤ, negℤ-negℤ, _+ℤ_, _-ℤ_}
 use Rattle.posit.specs.Number.{Number, nar, real, number, magnitude, opposite}
-use Rattle.posit.specs.Rounding.{Known, over}
+use Rattle.posit.specs.Rounding.{over}
 use Rattle.posit.proofs.Complement.{opposite-zero, opposite-is, opposite-twice}
 use Rattle.posit.proofs.Patterns.{number-zero, number-nar, number-plus, number-minus}
 use Rattle.posit.proofs.Own.{own}
-use Rattle.rows.specs.Rows.{Row, names, rounds, Meets}
+use Rattle.rows.specs.Rows.{rounds, Meets}
 use Rattle.arithmetic.proofs.Exact.{number-units}
 use Rattle.arithmetic.specs.Operations.{ofOne, ofTwo, minus, sum, difference}
 

@@ -1,15 +1,15 @@
 -- "A NaR anywhere in angles or arm makes all three parts NaR", and nothing else does: of real angles and a real arm no step
 -- answers NaR, nor anything beyond sixteen bits.
 use Prim.Native.Nat.{ℕ, _+_, _%_, _<_}
-use mathlib.Core.Path.{_≡_, _∙_, ap, sym, subst}
+use mathlib.Core.Path.{_≡_, _∙_, ap, sym}
 use mathlib.Core.Bool.{Bool, true, false, _||_, cond}
 use native.Mathlib.Omega.{arith}
 use borrow.Author.Tests.{ne-eqb}
 use lib.Dec.{lit≤, eqb, leb}
-use lib.IntN.{ℤ, pos, negsuc, natAbs, _+ℤ_, _*ℤ_}
-use Rattle.posit.specs.Number.{Number, nar, real, number, size, opposite}
+use lib.IntN.{ℤ, pos, negsuc}
+use Rattle.posit.specs.Number.{real, number, size, opposite}
 use Rattle.posit.specs.Rounding.{Known, nought, plus, minus, over, Rounds}
-use Rattle.posit.proofs.Complement.{opposite-twice, opposite-some, opposite-zero}
+use Rattle.posit.proofs.Complement.{opposite-twice, opposite-some}
 use Rattle.posit.proofs.Exists.{answered}
 use Rattle.rows.specs.Rows.{Row, names, rounds, within, opposed, bySign}
 use Rattle.p16e1.specs.Functions.{rowOf, answerTo, answerOf}
@@ -19,10 +19,11 @@ use Rattle.circular.specs.CosPi as CosPi
 use Rattle.arithmetic.specs.Operations.{sum, product}
 use Rattle.arithmetic.specs.Sizes.{signedUnits}
 use Rattle.arithmetic.proofs.Exact.{number-units}
-use Rattle.arithmetic.proofs.Opposites.{only-nar, opposite-fits}
+use Rattle.arithmetic.proofs.Opposites.{opposite-fits}
 use Rattle.arithmetic.proofs.Laws.{nar-itself, rounds-no-nar}
 use Rattle.turning.specs.Turn as Turn
-use Rattle.turning.specs.Turn.{Three, Matrix, three, part, row, column, times, entry, entries, rowTimes, matrixTimes, armTimes, headingMatrix, pitchMatrix, rollMatrix, sine, cosine, anyNar, turned}
+use Rattle.turning.specs.Turn.{Three, Matrix, three, part, row, column, times, entry, rowTimes, matrixTimes, armTimes, sine, cosine, anyNar, turned}
+use Rattle.turning.specs.Turn.{headingMatrix, pitchMatrix, rollMatrix}
 
 -- a pattern of sixteen bits that is not NaR
 abbrev pub Real : ℕ → Type 0
@@ -178,4 +179,5 @@ module _ (heading pitch roll : ℕ) (arm : Three) where
         ne-eqb (part 1 arm) 0x8000 (x .1 .1),
         ne-eqb (part 2 arm) 0x8000 (x .2 .1),
       )
-      (arm-real _ arm (matrix-real _ (rollMatrix roll) (matrix-real (headingMatrix heading) (pitchMatrix pitch) (heading-real heading h) (pitch-real pitch p)) (roll-real roll r)) x)
+      (let first = matrix-real (headingMatrix heading) (pitchMatrix pitch) (heading-real heading h) (pitch-real pitch p) in
+      arm-real _ arm (matrix-real _ (rollMatrix roll) first (roll-real roll r)) x)

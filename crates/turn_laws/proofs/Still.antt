@@ -1,13 +1,8 @@
 -- No turn gives the arm itself.
 use Prim.Native.Nat.{ℕ}
-use mathlib.Core.Path.{_≡_, _∙_, sym, subst}
+use mathlib.Core.Path.{_≡_, sym}
 use native.Mathlib.Omega.{arith}
 use borrow.Author.Tests.{ne-eqb}
-use lib.IntN.{pos}
-use Rattle.posit.specs.Number.{real, number}
-use Rattle.posit.proofs.Patterns.{number-zero}
-use Rattle.rows.specs.Rows.{Meets}
-use Rattle.arithmetic.specs.Operations.{sum, product}
 use Rattle.arithmetic.specs.Sizes.{signedUnits}
 use Rattle.arithmetic.proofs.Exact.{number-units}
 use Rattle.arithmetic.proofs.Laws.{sum-commutes, product-commutes, zero-neutral, one-neutral, zero-product}

@@ -1,6 +1,6 @@
 -- `arithmetic::products::multiply` meets its contract.
-use Prim.Native.Nat.{ℕ, _+_, _*_, _^_, _≤_, _<_}
-use mathlib.Core.Path.{_≡_, _∙_, ap, sym, subst, subst⁻¹}
+use Prim.Native.Nat.{ℕ, _+_, _*_, _^_, _≤_}
+use mathlib.Core.Path.{_≡_, _∙_, ap, subst, subst⁻¹}
 use native.Mathlib.Omega.{arith}
 use borrow.Author.Needs.{needs}
 use lib.Dec.{ltb}
@@ -9,7 +9,6 @@ use lib.Ieee.{unlike}
 use mir.Syntax.{w32}
 use mir.Val.{SFits, toZ, ofZ}
 use mir.Facts.{toZ-ofZ, toZ-pos}
-use Rattle.posit.specs.Number.{withSign}
 use Rattle.posit.specs.Rounding.{Known, dyadic, over, Rounds}
 use Rattle.rows.proofs.Whole.{mag-small}
 use Rattle.rows.proofs.Products.{product}

@@ -31,8 +31,9 @@ returns c = zero-scaled (c .before .before .before .args .p) (c .before .decode 
 
 returns-2 : tie.Need-returns-2
 returns-2 c =
-    some-scaled (c .before .before .before .args .p) (c .before .before .signed .result) (c .before .decode .result .fraction) (c .before .decode .result .power)
-    (c .if1 .left) (c .before .before .signed .ensures) (c .before .decode .ensures)
+    let s = c .before .before .signed in
+    let d = c .before .decode in
+    some-scaled (c .before .before .before .args .p) (s .result) (d .result .fraction) (d .result .power) (c .if1 .left) (s .ensures) (d .ensures)
 
 pub parts-of-spec : {M : Type 1} → statement M
 parts-of-spec = tie.close (tie.spec signed-requires decode-requires add-t10 returns returns-2)

@@ -5,7 +5,7 @@ use native.Mathlib.Omega.{arith}
 use lib.IntN.{ℤ, _+ℤ_}
 use lib.Signed.{mag}
 use mir.Syntax.{w64}
-use mir.Val.{SFits, toZ, ofZ}
+use mir.Val.{toZ, ofZ}
 use Rattle.posit.specs.Rounding.{over, Rounds}
 use Rattle.arithmetic.proofs.Exact.{kept, mag-sum, nar-plus, plus-nar, reals-plus}
 use Rattle.arithmetic.proofs.sums.add.Statement.{statement}

@@ -46,7 +46,10 @@ cast-result : tie.Need-cast-result
 cast-result c = let v = c .before .args .v in rw (far v (c .before .pre) (c .if1 .taken)) (tt, omega (arith, most v (c .before .pre)))
 
 cast-result-2 : tie.Need-cast-result-2
-cast-result-2 c = let v = c .before .args .v in rw (kept v (c .before .pre)) (not-below v (c .before .pre) (c .if1 .left), omega (arith, most v (c .before .pre)))
+cast-result-2 c =
+    let v = c .before .args .v in
+    let few = c .before .pre in
+    rw (kept v few) (not-below v few (c .if1 .left), omega (arith, most v few))
 
 returns : tie.Need-returns
 returns c = let v = c .before .args .v in rw (far v (c .before .pre) (c .if1 .taken))

@@ -1,18 +1,16 @@
 -- `arithmetic::sums::units_of` meets its contract.
-use Prim.Native.Nat.{ℕ, _^_, _≤_, _<_}
-use mathlib.Core.Path.{_≡_, _∙_, ap, sym, refl}
+use Prim.Native.Nat.{ℕ, _^_, _≤_}
+use mathlib.Core.Path.{_≡_, _∙_, ap, sym}
 use mathlib.Core.Bool.{Bool, true}
 use native.Mathlib.Omega.{arith}
 use borrow.Author.Tests.{ne-eqb}
-use lib.Dec.{ltb}
 use lib.IntN.{ℤ, pos, negℤ, _-ℤ_, +ℤ-idl}
-use lib.Signed.{mag}
 use mir.Syntax.{w64}
 use mir.Val.{SFits, toZ, ofZ}
 use mir.Facts.{toZ-ofZ, toZ-pos}
-use Rattle.posit.specs.Number.{magnitude, size, withSign}
-use Rattle.arithmetic.specs.Sizes.{unitsOf, signedUnits}
-use Rattle.arithmetic.proofs.Exact.{units-few, mag-minus, mag-signed}
+use Rattle.posit.specs.Number.{magnitude, withSign}
+use Rattle.arithmetic.specs.Sizes.{unitsOf}
+use Rattle.arithmetic.proofs.Exact.{units-few, mag-minus}
 use Rattle.arithmetic.proofs.sums.units_of.Statement.{statement}
 use Rattle.arithmetic.proofs.sums.units_of.Tie as tie
 
