@@ -17,8 +17,8 @@
 #define LAST 32767
 
 typedef struct {
-    unsigned first;                        /* of the first patterns, which go by the number of threads */
-    uint64_t pairs, nars, zeros, ties, ends; /* of one operation: what the model answered */
+    unsigned first;                          /* the least of the thread's first patterns */
+    uint64_t pairs, nars, zeros, ties, ends; /* how many of the model's answers are so */
 } Share;
 
 typedef struct {
@@ -39,8 +39,7 @@ static void fail(uint16_t a, uint16_t b, uint16_t says, uint16_t wants)
     exit(1);
 }
 
-/* Whether x reaches the number i: past the dividing number below it, or on it where i is even. Nothing above zero is 0, and
- * nothing below it. */
+/* Whether x reaches the number i: past the dividing number below it, or on it where i is even. */
 static bool reaches(Wide x, int i)
 {
     Wide least = passes[i + LAST];
@@ -94,7 +93,7 @@ static void every_pair(Operation o)
     if (!shares || !started)
         exit(1);
     operation = o;
-    for (int i = -LAST + 1; i <= LAST; i++) { /* the dividing number below i; between 0 and its neighbours there is 0 itself */
+    for (int i = -LAST + 1; i <= LAST; i++) { /* the dividing number below i; 0 itself divides it from 1 and from -1 */
         Wide least = i >= 2 ? model_dividing[i - 1] : i <= -1 ? -model_dividing[-i] : 0;
         passes[i + LAST] = least * ((Wide)1 << o.shift);
     }
