@@ -954,21 +954,11 @@ static void differences(void)
 
 /* ---- reals and spans */
 
-/* The number of the posit p of n bits with one exponent bit, which is neither zero nor NaR, read off its bits. */
+/* The number of the posit p of n bits with one exponent bit, which is neither zero nor NaR. */
 static double number_of(uint32_t p, int n)
 {
     bool negative = p >> (n - 1);
-    if (negative)
-        p = (1u << n) - p;
-    int first = p >> (n - 2) & 1, m = 0, at = n - 2;
-    while (at >= 0 && (int)(p >> at & 1) == first) {
-        m++;
-        at--;
-    }
-    at--; /* the bit that ends the run */
-    int e = at >= 0 ? (int)(p >> at & 1) : 0;
-    double fraction = at > 0 ? (double)(p & ((1u << at) - 1)) / (double)(1u << at) : 0.0;
-    double size = ldexp(1.0 + fraction, 2 * (first ? m - 1 : -m) + e);
+    double size = ldexp((double)model_magnitude(negative ? (1u << n) - p : p, n), -2 * (n - 2)); /* 14 bits: exactly */
     return negative ? -size : size;
 }
 

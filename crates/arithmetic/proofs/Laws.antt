@@ -20,7 +20,7 @@ use Rattle.posit.proofs.Patterns.{number-zero, number-plus}
 use Rattle.rows.specs.Rows.{rounds, Meets}
 use Rattle.rows.proofs.Straight.{StraightRow, over-straight, one}
 use Rattle.arithmetic.specs.Operations.{ofTwo, sum, difference, product}
-use Rattle.arithmetic.proofs.Opposites.{turned, number-opposite, only-nar}
+use Rattle.arithmetic.proofs.Opposites.{negatedNumber, number-opposite, only-nar}
 
 -- any two answers that an operation allows are equal
 two-straight : (f : ℤ → ℤ → ℤ) (k : ℕ) (x y : Number) → StraightRow (ofTwo (λ a b. over (f a b) k) x y)
@@ -71,7 +71,8 @@ pub sum-mirrors : (p q r : ℕ) → p < 0x10000 → q < 0x10000 → Meets (sum p
 unfolding sum
 sum-mirrors p q r h k m = rw (number-opposite p h, number-opposite q k) (go (number 1 16 p) (number 1 16 q) m)
   where
-    go : (x y : Number) → Meets (ofTwo (λ a b. over (a +ℤ b) 28) x y) r → Meets (ofTwo (λ a b. over (a +ℤ b) 28) (turned x) (turned y)) (opposite 16 r)
+    go : (x y : Number) → Meets (ofTwo (λ a b. over (a +ℤ b) 28) x y) r
+        → Meets (ofTwo (λ a b. over (a +ℤ b) 28) (negatedNumber x) (negatedNumber y)) (opposite 16 r)
     go nar y e = ap (opposite 16) e ∙ nar-itself
     go (real a) nar e = ap (opposite 16) e ∙ nar-itself
     go (real a) (real b) e = mirrored (a +ℤ b) (negℤ a +ℤ negℤ b) 28 r (sym (negℤ-+ℤ a b)) e
@@ -87,7 +88,7 @@ pub product-mirrors : (p q r : ℕ) → p < 0x10000 → Meets (product p q) r �
 unfolding product
 product-mirrors p q r h m = rw (number-opposite p h) (go (number 1 16 p) (number 1 16 q) m)
   where
-    go : (x y : Number) → Meets (ofTwo (λ a b. over (a *ℤ b) 56) x y) r → Meets (ofTwo (λ a b. over (a *ℤ b) 56) (turned x) y) (opposite 16 r)
+    go : (x y : Number) → Meets (ofTwo (λ a b. over (a *ℤ b) 56) x y) r → Meets (ofTwo (λ a b. over (a *ℤ b) 56) (negatedNumber x) y) (opposite 16 r)
     go nar y e = ap (opposite 16) e ∙ nar-itself
     go (real a) nar e = ap (opposite 16) e ∙ nar-itself
     go (real a) (real b) e = mirrored (a *ℤ b) (negℤ a *ℤ b) 56 r (minus-times a b) e

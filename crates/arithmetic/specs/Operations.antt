@@ -16,8 +16,8 @@ abbrev pub ofTwo : (ℤ → ℤ → Known) → Number → Number → Row
 ofTwo f nar y = names 0x8000
 ofTwo f (real a) y = ofOne (f a) y
 
-unfoldable pub minus : ℕ → Row
-minus p = ofOne (λ a. over (negℤ a) 28) (number 1 16 p)
+unfoldable pub negation : ℕ → Row
+negation p = ofOne (λ a. over (negℤ a) 28) (number 1 16 p)
 
 unfoldable pub sum : ℕ → ℕ → Row
 sum p q = ofTwo (λ a b. over (a +ℤ b) 28) (number 1 16 p) (number 1 16 q)

@@ -7,7 +7,7 @@ ghost use lib.Signed.{mag};
 ghost use Rattle.posit.specs.Number.{opposite};
 ghost use Rattle.posit.specs.Rounding.{over, Rounds};
 ghost use Rattle.rows.specs.Rows.{Meets};
-ghost use Rattle.arithmetic.specs.Operations.{minus, sum, difference};
+ghost use Rattle.arithmetic.specs.Operations.{negation, sum, difference};
 ghost use Rattle.arithmetic.specs.Sizes.{signedUnits};
 
 // p's number in units of 2^-28.
@@ -42,7 +42,7 @@ fn round_units(v: i64) -> u16
 // Minus p's number, which is always a posit's.
 pub fn negate(p: u16) -> u16
     ensures { λ r. ⌜ r ≡ opposite 16 p ⌝ }
-    ensures { λ r. ⌜ Meets (minus p) r ⌝ }
+    ensures { λ r. ⌜ Meets (negation p) r ⌝ }
 {
     posit::opposite(p)
 }

@@ -2,13 +2,13 @@
 ghost use mathlib.Core.Path.{_≡_};
 ghost use Rattle.posit.specs.Number.{opposite};
 ghost use Rattle.rows.specs.Rows.{Meets};
-ghost use Rattle.arithmetic.specs.Operations.{minus, sum, difference, product};
+ghost use Rattle.arithmetic.specs.Operations.{negation, sum, difference, product};
 ghost use Rattle.turning.specs.Turn as Turn;
 
 #[no_mangle]
 pub extern "C" fn balehasp_negate(p: u16) -> u16
     ensures { λ r. ⌜ r ≡ opposite 16 p ⌝ }
-    ensures { λ r. ⌜ Meets (minus p) r ⌝ }
+    ensures { λ r. ⌜ Meets (negation p) r ⌝ }
 {
     arithmetic::negate(p)
 }

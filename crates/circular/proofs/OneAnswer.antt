@@ -1,31 +1,20 @@
 -- Any two results that a function's contract allows are equal: each row has one answer.
-use Prim.Native.Nat.{ℕ, _+_, _-_, _*_, _%_, _^_}
+use Prim.Native.Nat.{ℕ, _-_, _*_, _%_, _^_}
 use mathlib.Core.Path.{_≡_}
-use mathlib.Core.Bool.{Bool, cond}
-use lib.Dec.{eqb, ltb, leb}
+use mathlib.Core.Bool.{cond}
+use lib.Dec.{eqb, ltb}
 use lib.IntN.{pos, natAbs}
 use Rattle.posit.specs.Number.{Number, nar, real, number, size}
 use Rattle.posit.specs.Rounding.{over}
-use Rattle.rows.specs.Rows.{Row, names, rounds, Meets, within, opposed}
+use Rattle.rows.specs.Rows.{names, rounds, Meets, within, opposed}
 use Rattle.rows.proofs.Straight.{StraightRow, either, opposed-straight, by-sign-straight, over-straight, one}
-use Rattle.circular.specs.Quadrants.{quadrant, rest, odd, reflected}
 use Rattle.circular.specs.SinPi as SinPi
 use Rattle.circular.specs.CosPi as CosPi
 use Rattle.circular.specs.TanPi as TanPi
-
-quadrant-straight : (b : Bool) (u : Row) → StraightRow u → StraightRow (cond b (opposed u) u)
-quadrant-straight b u s = either b (opposed u) u (opposed-straight u s) s
-
--- the answer in a quadrant, by a rest that is 0 or by the kernel
-in-quadrant : (r u k q : ℕ) → StraightRow (cond (eqb r 0) (names u) (rounds (over (pos k) q)))
-in-quadrant r u k q = either (eqb r 0) (names u) (rounds (over (pos k) q)) tt (over-straight (pos k) q)
+use Rattle.circular.proofs.Waves.{of-sine, of-cosine}
 
 sine-straight : (k : ℕ) → StraightRow (SinPi.sine k)
-unfolding SinPi.sine SinPi.unsigned
-sine-straight k =
-    let q = quadrant k in
-    let r = rest k in
-    quadrant-straight (leb 2 q) (SinPi.unsigned q r) (in-quadrant r (cond (odd q) 0x4000 0) (SinPi.poly (reflected q r)) 28)
+sine-straight = of-sine StraightRow opposed-straight tt tt (λ k q. over-straight (pos k) q)
 
 sin-straight : (x : Number) → StraightRow (SinPi.otherwise x)
 sin-straight nar = tt
@@ -36,11 +25,7 @@ unfolding SinPi.row
 sin-pi-row p = either (within 31744 0x7fff (size 16 p)) (names 0) (SinPi.otherwise (number 1 16 p)) tt (sin-straight (number 1 16 p))
 
 cosine-straight : (k : ℕ) → StraightRow (CosPi.cosine k)
-unfolding CosPi.cosine CosPi.unsigned
-cosine-straight k =
-    let q = quadrant k in
-    let r = rest k in
-    quadrant-straight (leb 2 ((q + 1) % 4)) (CosPi.unsigned q r) (in-quadrant r (cond (odd q) 0 0x4000) (CosPi.poly (reflected q r)) 25)
+cosine-straight = of-cosine StraightRow opposed-straight tt tt (λ k q. over-straight (pos k) q)
 
 cos-straight : (x : Number) → StraightRow (CosPi.otherwise x)
 cos-straight nar = tt

@@ -13,9 +13,17 @@ abbrev pub StraightRow : Row → Type 0
 StraightRow (names u) = Unit {0}
 StraightRow (rounds x) = Straight x
 
+-- what holds of two rows holds of either, and what goes over to the opposed row holds by sign
+pub of-either : (P : Row → Type 0) (b : Bool) (v w : Row) → P v → P w → P (cond b v w)
+of-either P true v w pv pw = pv
+of-either P false v w pv pw = pw
+
+pub of-sign : (P : Row → Type 0) → ((w : Row) → P w → P (opposed w)) → (f : ℕ → Row) → ((k : ℕ) → P (f k)) → (q : ℤ) → P (bySign f q)
+of-sign P o f h (pos k) = h k
+of-sign P o f h (negsuc k) = o (f (suc k)) (h (suc k))
+
 pub either : (b : Bool) (v w : Row) → StraightRow v → StraightRow w → StraightRow (cond b v w)
-either true v w sv sw = sv
-either false v w sv sw = sw
+either = of-either StraightRow
 
 pub negated-straight : (x : Known) → Straight x → Straight (negated x)
 negated-straight nought s = s
@@ -27,8 +35,7 @@ opposed-straight (names u) s = tt
 opposed-straight (rounds x) s = negated-straight x s
 
 pub by-sign-straight : (f : ℕ → Row) → ((k : ℕ) → StraightRow (f k)) → (q : ℤ) → StraightRow (bySign f q)
-by-sign-straight f s (pos k) = s k
-by-sign-straight f s (negsuc k) = opposed-straight (f (suc k)) (s (suc k))
+by-sign-straight = of-sign StraightRow opposed-straight
 
 pub over-straight : (k : ℤ) (q : ℕ) → Straight (over k q)
 over-straight k q = dyadic-straight k (negℤ (pos q))

@@ -1,33 +1,38 @@
 -- "A NaR anywhere in angles or arm makes all three parts NaR", and nothing else does: of real angles and a real arm no step
 -- answers NaR, nor anything beyond sixteen bits.
-use Prim.Native.Nat.{ℕ, _+_, _%_, _<_}
+use Prim.Native.Nat.{ℕ, _<_}
 use mathlib.Core.Path.{_≡_, _∙_, ap, sym}
-use mathlib.Core.Bool.{Bool, true, false, _||_, cond}
+use mathlib.Core.Bool.{true, _||_}
 use native.Mathlib.Omega.{arith}
 use borrow.Author.Tests.{ne-eqb}
-use lib.Dec.{lit≤, eqb, leb}
-use lib.IntN.{ℤ, pos, negsuc}
+use lib.Dec.{lit≤}
 use Rattle.posit.specs.Number.{real, number, size, opposite}
-use Rattle.posit.specs.Rounding.{Known, nought, plus, minus, over, Rounds}
+use Rattle.posit.specs.Rounding.{Known, nought, plus, minus, Rounds}
 use Rattle.posit.proofs.Complement.{opposite-twice, opposite-some}
 use Rattle.posit.proofs.Exists.{answered}
-use Rattle.rows.specs.Rows.{Row, names, rounds, within, opposed, bySign}
+use Rattle.rows.specs.Rows.{Row, names, rounds, within, opposed}
+use Rattle.rows.proofs.Straight.{of-either, of-sign}
 use Rattle.p16e1.specs.Functions.{rowOf, answerTo, answerOf}
-use Rattle.circular.specs.Quadrants.{quadrant, rest, odd, reflected}
 use Rattle.circular.specs.SinPi as SinPi
 use Rattle.circular.specs.CosPi as CosPi
+use Rattle.circular.proofs.Waves.{of-sine, of-cosine}
 use Rattle.arithmetic.specs.Operations.{sum, product}
 use Rattle.arithmetic.specs.Sizes.{signedUnits}
 use Rattle.arithmetic.proofs.Exact.{number-units}
 use Rattle.arithmetic.proofs.Opposites.{opposite-fits}
 use Rattle.arithmetic.proofs.Laws.{nar-itself, rounds-no-nar}
-use Rattle.turning.specs.Turn as Turn
-use Rattle.turning.specs.Turn.{Three, Matrix, three, part, row, column, times, entry, rowTimes, matrixTimes, armTimes, sine, cosine, anyNar, turned}
-use Rattle.turning.specs.Turn.{headingMatrix, pitchMatrix, rollMatrix}
+use Rattle.turning.specs.Turn.{Three, Matrix, three, part, row, column, roundedSum, roundedProduct, sine, cosine, entry, rowTimes, matrixTimes, armTimes}
+use Rattle.turning.specs.Turn.{headingMatrix, pitchMatrix, rollMatrix, anyNar, turned}
 
 -- a pattern of sixteen bits that is not NaR
 abbrev pub Real : ℕ → Type 0
 Real p = (p < 0x10000) × (p ≡ 0x8000 → ⊥)
+
+pub zero-real : Real 0
+zero-real = (omega arith, λ e. omega arith)
+
+one-real : Real 0x4000
+one-real = (omega arith, λ e. omega arith)
 
 -- a row that does not answer NaR
 abbrev Sound : Row → Type 0
@@ -45,67 +50,35 @@ sound-answer (rounds x) s =
     let m = answered 1 16 (lit≤ tt) x in
     (rounds-fits x (answerTo (rounds x)) m, rounds-no-nar x (answerTo (rounds x)) m)
 
-pub minus-real : (p : ℕ) → Real p → Real (opposite 16 p)
+minus-real : (p : ℕ) → Real p → Real (opposite 16 p)
 minus-real p r = (
   opposite-fits p,
   λ e. let s = opposite-some 16 p (omega (arith, e)) in r .1 (sym (opposite-twice 16 p (s .0) (s .1)) ∙ ap (opposite 16) e ∙ nar-itself),
 )
 
-either : (b : Bool) (v w : Row) → Sound v → Sound w → Sound (cond b v w)
-either true v w sv sw = sv
-either false v w sv sw = sw
-
 opposed-sound : (w : Row) → Sound w → Sound (opposed w)
 opposed-sound (names u) s = minus-real u s
 opposed-sound (rounds x) s = tt
 
-one-or-zero : (b : Bool) → Real (cond b 0x4000 0) × Real (cond b 0 0x4000)
-one-or-zero true = ((omega arith, λ e. omega arith), (omega arith, λ e. omega arith))
-one-or-zero false = ((omega arith, λ e. omega arith), (omega arith, λ e. omega arith))
-
--- the answer in a quadrant, by a rest that is 0 or by the kernel, with its sign
-in-quadrant : (b : Bool) (r u : ℕ) (x : Known) → Real u → Sound (cond b (opposed (cond (eqb r 0) (names u) (rounds x))) (cond (eqb r 0) (names u) (rounds x)))
-in-quadrant b r u x s =
-    let w = cond (eqb r 0) (names u) (rounds x) in
-    let sw = either (eqb r 0) (names u) (rounds x) s tt in
-    either b (opposed w) w (opposed-sound w sw) sw
-
-sine-sound : (k : ℕ) → Sound (SinPi.sine k)
-unfolding SinPi.sine SinPi.unsigned
-sine-sound k =
-    let q = quadrant k in
-    let r = rest k in
-    in-quadrant (leb 2 q) r (cond (odd q) 0x4000 0) (over (pos (SinPi.poly (reflected q r))) 28) (one-or-zero (odd q) .0)
-
-cosine-sound : (k : ℕ) → Sound (CosPi.cosine k)
-unfolding CosPi.cosine CosPi.unsigned
-cosine-sound k =
-    let q = quadrant k in
-    let r = rest k in
-    in-quadrant (leb 2 ((q + 1) % 4)) r (cond (odd q) 0 0x4000) (over (pos (CosPi.poly (reflected q r))) 25) (one-or-zero (odd q) .1)
-
-by-sign-sound : (q : ℤ) → Sound (bySign SinPi.sine q)
-by-sign-sound (pos k) = sine-sound k
-by-sign-sound (negsuc k) = opposed-sound (SinPi.sine _) (sine-sound _)
-
-pub sine-real : (p : ℕ) → Real p → Real (sine p)
+sine-real : (p : ℕ) → Real p → Real (sine p)
 unfolding answerOf rowOf SinPi.row
 sine-real p r =
     sound-answer (SinPi.row p)
-    (either (within 31744 0x7fff (size 16 p)) (names 0) (SinPi.otherwise (number 1 16 p)) (omega arith, λ e. omega arith)
-    (rw (number-units p (r .1)) (by-sign-sound (signedUnits p))))
+    (of-either Sound (within 31744 0x7fff (size 16 p)) (names 0) (SinPi.otherwise (number 1 16 p)) zero-real
+    (rw (number-units p (r .1))
+    (of-sign Sound opposed-sound SinPi.sine (of-sine Sound opposed-sound zero-real one-real (λ k q. tt)) (signedUnits p))))
 
-pub cosine-real : (p : ℕ) → Real p → Real (cosine p)
+cosine-real : (p : ℕ) → Real p → Real (cosine p)
 unfolding answerOf rowOf CosPi.row
-cosine-real p r = sound-answer (CosPi.row p) (rw (number-units p (r .1)) (cosine-sound _))
+cosine-real p r = sound-answer (CosPi.row p) (rw (number-units p (r .1)) (of-cosine Sound opposed-sound zero-real one-real (λ k q. tt) _))
 
-pub plus-real : (a b : ℕ) → Real a → Real b → Real (Turn.plus a b)
-unfolding Turn.plus sum
-plus-real a b r s = sound-answer (sum a b) (rw (number-units a (r .1), number-units b (s .1)) tt)
+sum-real : (a b : ℕ) → Real a → Real b → Real (roundedSum a b)
+unfolding roundedSum sum
+sum-real a b r s = sound-answer (sum a b) (rw (number-units a (r .1), number-units b (s .1)) tt)
 
-pub times-real : (a b : ℕ) → Real a → Real b → Real (times a b)
-unfolding times product
-times-real a b r s = sound-answer (product a b) (rw (number-units a (r .1), number-units b (s .1)) tt)
+product-real : (a b : ℕ) → Real a → Real b → Real (roundedProduct a b)
+unfolding roundedProduct product
+product-real a b r s = sound-answer (product a b) (rw (number-units a (r .1), number-units b (s .1)) tt)
 
 abbrev pub Reals : Three → Type 0
 Reals a = Real (part 0 a) × Real (part 1 a) × Real (part 2 a)
@@ -116,10 +89,10 @@ RealRows m = Reals (row 0 m) × Reals (row 1 m) × Reals (row 2 m)
 entry-real : (a b : Three) → Reals a → Reals b → Real (entry a b)
 unfolding entry
 entry-real a b r s =
-    let first = times-real (part 0 a) (part 0 b) (r .0) (s .0) in
-    let second = times-real (part 1 a) (part 1 b) (r .1) (s .1) in
-    let third = times-real (part 2 a) (part 2 b) (r .2) (s .2) in
-    plus-real _ _ (plus-real _ _ first second) third
+    let first = product-real (part 0 a) (part 0 b) (r .0) (s .0) in
+    let second = product-real (part 1 a) (part 1 b) (r .1) (s .1) in
+    let third = product-real (part 2 a) (part 2 b) (r .2) (s .2) in
+    sum-real _ _ (sum-real _ _ first second) third
 
 row-real : (a : Three) (n : Matrix) → Reals a → RealRows n → Reals (rowTimes a n)
 row-real a n r s =
@@ -132,14 +105,7 @@ unfolding matrixTimes
 matrix-real m n r s = (row-real (row 0 m) n (r .0) s, row-real (row 1 m) n (r .1) s, row-real (row 2 m) n (r .2) s)
 
 arm-real : (m : Matrix) (arm : Three) → RealRows m → Reals arm → Reals (armTimes m arm)
-unfolding armTimes
 arm-real m arm r s = (entry-real (row 0 m) arm (r .0) s, entry-real (row 1 m) arm (r .1) s, entry-real (row 2 m) arm (r .2) s)
-
-zero-real : Real 0
-zero-real = (omega arith, λ e. omega arith)
-
-one-real : Real 0x4000
-one-real = (omega arith, λ e. omega arith)
 
 module _ (p : ℕ) (r : Real p) where
   s : Real (sine p)
@@ -148,19 +114,16 @@ module _ (p : ℕ) (r : Real p) where
   c : Real (cosine p)
   c = cosine-real p r
 
-  m : Real (Turn.minus (sine p))
+  m : Real (opposite 16 (sine p))
   m = minus-real (sine p) s
 
   heading-real : RealRows (headingMatrix p)
-  unfolding headingMatrix
   heading-real = ((c, m, zero-real), (s, c, zero-real), (zero-real, zero-real, one-real))
 
   pitch-real : RealRows (pitchMatrix p)
-  unfolding pitchMatrix
   pitch-real = ((c, zero-real, s), (zero-real, one-real, zero-real), (m, zero-real, c))
 
   roll-real : RealRows (rollMatrix p)
-  unfolding rollMatrix
   roll-real = ((one-real, zero-real, zero-real), (zero-real, c, m), (zero-real, s, c))
 
 module _ (heading pitch roll : ℕ) (arm : Three) where
@@ -179,5 +142,6 @@ module _ (heading pitch roll : ℕ) (arm : Three) where
         ne-eqb (part 1 arm) 0x8000 (x .1 .1),
         ne-eqb (part 2 arm) 0x8000 (x .2 .1),
       )
-      (let first = matrix-real (headingMatrix heading) (pitchMatrix pitch) (heading-real heading h) (pitch-real pitch p) in
-      arm-real _ arm (matrix-real _ (rollMatrix roll) first (roll-real roll r)) x)
+      (let first = matrixTimes (headingMatrix heading) (pitchMatrix pitch) in
+      let first-real = matrix-real (headingMatrix heading) (pitchMatrix pitch) (heading-real heading h) (pitch-real pitch p) in
+      arm-real (matrixTimes first (rollMatrix roll)) arm (matrix-real first (rollMatrix roll) first-real (roll-real roll r)) x)

@@ -8,15 +8,15 @@ use Rattle.circular.specs.SinPi as SinPi
 use Rattle.circular.specs.CosPi as CosPi
 use Rattle.arithmetic.specs.Operations.{sum, product}
 use Rattle.arithmetic.proofs.Laws.{one-sum, one-product}
-use Rattle.turning.specs.Turn.{plus, times, sine, cosine}
+use Rattle.turning.specs.Turn.{roundedSum, roundedProduct, sine, cosine}
 
-pub plus-is : (a b r : ℕ) → Meets (sum a b) r → r ≡ plus a b
-unfolding plus
-plus-is a b r m = one-sum a b r (plus a b) m (meets-answer (sum a b))
+pub sum-is : (a b r : ℕ) → Meets (sum a b) r → r ≡ roundedSum a b
+unfolding roundedSum
+sum-is a b r m = one-sum a b r (roundedSum a b) m (meets-answer (sum a b))
 
-pub times-is : (a b r : ℕ) → Meets (product a b) r → r ≡ times a b
-unfolding times
-times-is a b r m = one-product a b r (times a b) m (meets-answer (product a b))
+pub product-is : (a b r : ℕ) → Meets (product a b) r → r ≡ roundedProduct a b
+unfolding roundedProduct
+product-is a b r m = one-product a b r (roundedProduct a b) m (meets-answer (product a b))
 
 pub sine-is : (p r : ℕ) → Meets (SinPi.row p) r → r ≡ sine p
 unfolding rowOf

@@ -11,14 +11,11 @@ use Rattle.p16e1.specs.Functions.{answerTo, answerOf}
 use Rattle.arithmetic.specs.Operations.{sum, product}
 
 -- the rounded operations on patterns
-unfoldable pub plus : ℕ → ℕ → ℕ
-plus a b = answerTo (sum a b)
+unfoldable pub roundedSum : ℕ → ℕ → ℕ
+roundedSum a b = answerTo (sum a b)
 
-unfoldable pub times : ℕ → ℕ → ℕ
-times a b = answerTo (product a b)
-
-abbrev pub minus : ℕ → ℕ
-minus p = opposite 16 p
+unfoldable pub roundedProduct : ℕ → ℕ → ℕ
+roundedProduct a b = answerTo (product a b)
 
 -- rows 5 and 6 of document 01
 abbrev pub sine : ℕ → ℕ
@@ -50,7 +47,7 @@ column k m = three (part k (row 0 m)) (part k (row 1 m)) (part k (row 2 m))
 
 -- "Every product is rounded before it is added, and every sum is taken left to right": a row with a column
 unfoldable pub entry : Three → Three → ℕ
-entry a b = plus (plus (times (part 0 a) (part 0 b)) (times (part 1 a) (part 1 b))) (times (part 2 a) (part 2 b))
+entry a b = roundedSum (roundedSum (roundedProduct (part 0 a) (part 0 b)) (roundedProduct (part 1 a) (part 1 b))) (roundedProduct (part 2 a) (part 2 b))
 
 -- a row with three columns
 abbrev pub entries : Three → Three → Three → Three → Three
@@ -62,27 +59,27 @@ rowTimes a n = entries a (column 0 n) (column 1 n) (column 2 n)
 unfoldable pub matrixTimes : Matrix → Matrix → Matrix
 matrixTimes m n = rows (rowTimes (row 0 m) n) (rowTimes (row 1 m) n) (rowTimes (row 2 m) n)
 
-unfoldable pub armTimes : Matrix → Three → Three
+abbrev pub armTimes : Matrix → Three → Three
 armTimes m arm = three (entry (row 0 m) arm) (entry (row 1 m) arm) (entry (row 2 m) arm)
 
 -- "Heading is about the third axis, pitch the second, roll the first, each turning counter-clockwise as seen from the axis's
 -- positive end."
-unfoldable pub headingMatrix : ℕ → Matrix
+abbrev pub headingMatrix : ℕ → Matrix
 headingMatrix p =
-    rows (three (cosine p) (minus (sine p)) 0)
+    rows (three (cosine p) (opposite 16 (sine p)) 0)
     (three (sine p) (cosine p) 0)
     (three 0 0 0x4000)
 
-unfoldable pub pitchMatrix : ℕ → Matrix
+abbrev pub pitchMatrix : ℕ → Matrix
 pitchMatrix p =
     rows (three (cosine p) 0 (sine p))
     (three 0 0x4000 0)
-    (three (minus (sine p)) 0 (cosine p))
+    (three (opposite 16 (sine p)) 0 (cosine p))
 
-unfoldable pub rollMatrix : ℕ → Matrix
+abbrev pub rollMatrix : ℕ → Matrix
 rollMatrix p =
     rows (three 0x4000 0 0)
-    (three 0 (cosine p) (minus (sine p)))
+    (three 0 (cosine p) (opposite 16 (sine p)))
     (three 0 (sine p) (cosine p))
 
 abbrev pub isNar : ℕ → Bool

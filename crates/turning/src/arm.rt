@@ -1,7 +1,8 @@
 // The turn. Heading is about the third axis, pitch about the second and roll about the first, each counter-clockwise as seen
 // from the axis's positive end; angles are half-turns.
 ghost use mathlib.Core.Path.{_≡_};
-ghost use Rattle.turning.specs.Turn.{sine, minus, cosine, headingMatrix, pitchMatrix, rollMatrix, anyNar, turned};
+ghost use Rattle.posit.specs.Number.{opposite};
+ghost use Rattle.turning.specs.Turn.{sine, cosine, headingMatrix, pitchMatrix, rollMatrix, anyNar, turned};
 use crate::matrix::arm_times;
 use crate::matrix::matrix_times;
 
@@ -15,7 +16,7 @@ struct Wave {
 }
 
 fn wave_of(angle: u16) -> Wave
-    ensures { λ w. ⌜ (w .sine ≡ sine angle) × (w .minus ≡ minus (sine angle)) × (w .cosine ≡ cosine angle) ⌝ }
+    ensures { λ w. ⌜ (w .sine ≡ sine angle) × (w .minus ≡ opposite 16 (sine angle)) × (w .cosine ≡ cosine angle) ⌝ }
 {
     let sine = circular::sin_pi(angle);
     Wave {

@@ -43,7 +43,9 @@ module _ (c : tie.Else1) where
   found = c .before .before .read-sections .result
 
   have : Read b found
-  have = let n = c .before .number in read b found (c .before .before .read-sections .ensures) (accepts (found .refusal) (n .result) (n .ensures) (c .if1 .left))
+  have =
+      let n = c .before .number in
+      read b found (c .before .before .read-sections .ensures) (accepts (found .refusal) (n .result) (n .ensures) (c .if1 .left))
 
   asks-is : found .functions * found .patterns ≡ asks b
   asks-is = ap (λ (n : ℕ). n * found .patterns) (have .counts .functions) ∙ ap (λ (n : ℕ). length (functionsOf b) * n) (have .counts .patterns)

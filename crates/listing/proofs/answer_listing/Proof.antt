@@ -51,7 +51,9 @@ module _ (c : tie.Else1) where
   found = c .before .before .read-sections .result
 
   have : Read b found
-  have = let n = c .before .number in read b found (c .before .before .read-sections .ensures) (accepts (found .refusal) (n .result) (n .ensures) (c .if1 .left))
+  have =
+      let n = c .before .number in
+      read b found (c .before .before .read-sections .ensures) (accepts (found .refusal) (n .result) (n .ensures) (c .if1 .left))
 
   size : length (answered (functionsOf b) (patternsOf b)) ≡ 4 + 2 * found .functions + 2 * found .patterns + 2 + 2 * (found .functions * found .patterns)
   size = size-is b (found .functions) (found .patterns) (have .counts .functions) (have .counts .patterns)
@@ -95,7 +97,8 @@ refused-requires-3 c κs = search needs
 returns-3 : tie.Need-returns-3
 returns-3 c =
     let d = c .before .before .before in
-    let q = refused-call (b d) (output d) Output (output-last (b d) (length (output d)) (have d .sound) (omega (arith, have d .past)) (omega (arith, size d))) refl in
+    let q = refused-call (b d) (output d)
+    Output (output-last (b d) (length (output d)) (have d .sound) (omega (arith, have d .past)) (omega (arith, size d))) refl in
     (c .refused3 .ensures ∙ q .0, q .1)
 
 write-answered-requires : tie.Need-write-answered-requires

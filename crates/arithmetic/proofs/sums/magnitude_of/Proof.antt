@@ -15,9 +15,9 @@ use Rattle.arithmetic.proofs.sums.magnitude_of.Statement.{statement}
 use Rattle.arithmetic.proofs.sums.magnitude_of.Tie as tie
 
 -- minus a number below zero
-turned : (v : ℤ) → ltZ v (pos 0) ≡ true → pos 0 -ℤ v ≡ pos (natAbs v)
-turned (pos n) h = let f = ltb-true n 0 h in absurd (omega arith)
-turned (negsuc n) h = ap pos (omega arith)
+minus-negative : (v : ℤ) → ltZ v (pos 0) ≡ true → pos 0 -ℤ v ≡ pos (natAbs v)
+minus-negative (pos n) h = let f = ltb-true n 0 h in absurd (omega arith)
+minus-negative (negsuc n) h = ap pos (omega arith)
 
 module _ (v : ℤ) (few : mag v ≤ 2 ^ 58) where
   most : natAbs v ≤ 2 ^ 58 + 1
@@ -31,7 +31,7 @@ module _ (v : ℤ) (few : mag v ≤ 2 ^ 58) where
       yes (negsuc n) e = let z : _≡_ {A = ℕ} 0 1 = cc in absurd (omega arith)
 
   away : ltZ (toZ w64 (ofZ w64 v)) (pos 0) ≡ true → pos 0 -ℤ toZ w64 (ofZ w64 v) ≡ pos (natAbs v)
-  away h = rw (kept v few) (turned v (rw (kept v few) at h))
+  away h = rw (kept v few) (minus-negative v (rw (kept v few) at h))
 
   away-fits : ltZ (toZ w64 (ofZ w64 v)) (pos 0) ≡ true → SFits w64 (pos 0 -ℤ toZ w64 (ofZ w64 v))
   away-fits h = rw (away h) (record { sfits = omega (arith, most) })

@@ -1,6 +1,6 @@
 -- `turning::arm::wave_of` meets its contract.
 use mathlib.Core.Path.{_∙_, ap}
-use Rattle.turning.specs.Turn.{minus}
+use Rattle.posit.specs.Number.{opposite}
 use Rattle.turning.proofs.Steps.{sine-is, cosine-is}
 use Rattle.turning.proofs.arm.wave_of.Statement.{statement}
 use Rattle.turning.proofs.arm.wave_of.Tie as tie
@@ -19,7 +19,7 @@ returns c =
     let angle = c .before .before .before .args .angle in
     let s = c .before .before .sin-pi in
     let n = sine-is angle (s .result) (s .ensures) in
-    (n, c .before .negate .ensures .0 ∙ ap minus n, cosine-is angle (c .cos-pi .result) (c .cos-pi .ensures))
+    (n, c .before .negate .ensures .0 ∙ ap (opposite 16) n, cosine-is angle (c .cos-pi .result) (c .cos-pi .ensures))
 
 pub wave-of-spec : {M : Type 1} → statement M
 wave-of-spec = tie.close (tie.spec sin-pi-requires negate-requires cos-pi-requires returns)

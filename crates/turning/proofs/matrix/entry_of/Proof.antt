@@ -1,8 +1,8 @@
 -- `turning::matrix::entry_of` meets its contract.
 use mathlib.Core.Path.{_∙_}
 use borrow.Author.Needs.{needs}
-use Rattle.turning.specs.Turn.{plus, part, entry}
-use Rattle.turning.proofs.Steps.{plus-is, times-is}
+use Rattle.turning.specs.Turn.{roundedSum, part, entry}
+use Rattle.turning.proofs.Steps.{sum-is, product-is}
 use Rattle.turning.proofs.matrix.entry_of.Statement.{statement}
 use Rattle.turning.proofs.matrix.entry_of.Tie as tie
 
@@ -45,12 +45,12 @@ returns c =
     let m = c .before .before in
     let a = m .before .before .before .args .t1 in
     let b = m .before .before .before .args .t2 in
-    plus-is (c .before .add .result) (m .multiply3 .result) (c .add2 .result) (c .add2 .ensures)
-    ∙ (λ i. plus
-    ((plus-is (m .before .before .multiply .result) (m .before .multiply2 .result) (c .before .add .result) (c .before .add .ensures)
-    ∙ (λ j. plus (times-is (part 0 a) (part 0 b) (m .before .before .multiply .result) (m .before .before .multiply .ensures) j)
-    (times-is (part 1 a) (part 1 b) (m .before .multiply2 .result) (m .before .multiply2 .ensures) j))) i)
-    (times-is (part 2 a) (part 2 b) (m .multiply3 .result) (m .multiply3 .ensures) i))
+    sum-is (c .before .add .result) (m .multiply3 .result) (c .add2 .result) (c .add2 .ensures)
+    ∙ (λ i. roundedSum
+    ((sum-is (m .before .before .multiply .result) (m .before .multiply2 .result) (c .before .add .result) (c .before .add .ensures)
+    ∙ (λ j. roundedSum (product-is (part 0 a) (part 0 b) (m .before .before .multiply .result) (m .before .before .multiply .ensures) j)
+    (product-is (part 1 a) (part 1 b) (m .before .multiply2 .result) (m .before .multiply2 .ensures) j))) i)
+    (product-is (part 2 a) (part 2 b) (m .multiply3 .result) (m .multiply3 .ensures) i))
 
 pub entry-of-spec : {M : Type 1} → statement M
 entry-of-spec =
