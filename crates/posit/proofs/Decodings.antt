@@ -1,6 +1,6 @@
 -- Decodings: of a pattern in units, of one without its sign bit, and that a magnitude has but one.
 use Prim.Native.Nat.{ℕ, zero, suc, _+_, _-_, _*_, _/_, _%_, _^_, _≤_, _<_}
-use mathlib.Core.Path.{_≡_, _∙_, sym, ap, refl}
+use mathlib.Core.Path.{_≡_, _∙_, sym, ap, refl, subst}
 use native.Mathlib.Omega.{arith}
 use native.Mathlib.Nat.{mul-assoc, mul-right-comm, mul-div-cancel, add-mul, eq-of-mul-eq-mul-right, mul-lt-mul-of-pos-right, mul-le-mul, pow-suc}
 use native.Mathlib.Decide.{decLt}
@@ -51,6 +51,10 @@ of-zero = refl
 
 pub decodes-as : (p q w f : ℕ) → magnitude 1 16 p ≡ magnitude 1 16 q → Decodes q w f → Decodes p w f
 decodes-as p q w f e d = record { value = ap (λ (y : ℕ). y * 2 ^ 12) e ∙ d .value; small = d .small; few = d .few }
+
+-- a decoding told by equal numbers
+pub same-decoding : {p w f w' f' : ℕ} → Decodes p w f → w ≡ w' → f ≡ f' → Decodes p w' f'
+same-decoding {p} {w} {f} {w'} {f'} d e g = subst (λ (x : ℕ). Decodes p x f') e (subst (Decodes p w) g d)
 
 -- a magnitude decodes in one way
 lead-below : (w w' f f' : ℕ) → w < w' → f < 2 ^ 12 → (2 ^ 12 + f) * 2 ^ w ≡ (2 ^ 12 + f') * 2 ^ w' → ⊥

@@ -4,8 +4,12 @@ use Prim.Native.Nat.{ℕ, zero, suc, _+_, _-_, _*_, _/_, _%_, _^_, _≤_, _<_}
 use mathlib.Core.Path.{_≡_, _∙_, subst⁻¹, sym, ap, refl}
 use mathlib.Core.Logic.{⊎-elim}
 use native.Mathlib.Omega.{arith}
+use native.Mathlib.Decide.{decLt}
+use borrow.Author.Tests.{le-leb, lt-leb}
+use lib.Dec.{leb}
+use mathlib.Core.Bool.{Bool, true, false, cond}
 use native.Mathlib.Nat.{mod-lt, mul-div-mul-right, mul-assoc, mul-comm, mul-right-comm, add-mul, le-refl, eq-or-lt-of-le, eq-of-mul-eq-mul-right}
-use lib.Pow.{pow-pos, pow-add, field, mod-mod-pow}
+use lib.Pow.{pow-pos, pow-add, field, mod-mod-pow, shl-shr}
 use Rattle.posit.specs.Number.{magnitude, run, bit, regime}
 use Rattle.posit.specs.Decoding.{Decodes}
 use Rattle.posit.proofs.Value.{value-times, magnitude-is, mod-times}
@@ -77,7 +81,7 @@ regime-least : (b m : ℕ) → 14 - m ≤ regime 1 16 b m
 regime-least zero m = omega arith
 regime-least (suc b) m = omega arith
 
-regime-most : (b m : ℕ) → m ≤ 15 → regime 1 16 b m ≤ 56
+pub regime-most : (b m : ℕ) → m ≤ 15 → regime 1 16 b m ≤ 56
 regime-most zero m h = omega arith
 regime-most (suc b) m h = omega arith
 
@@ -115,3 +119,30 @@ decodes p b m eb em some most =
 
     lead : (2 ^ t + x % 2 ^ t) * 2 ^ 12 ≡ (2 ^ 12 + f) * 2 ^ t
     lead = omega (arith, fraction m p some most, add-mul (2 ^ t) (x % 2 ^ t) (2 ^ 12), add-mul (2 ^ 12) f (2 ^ t))
+
+-- a run of ones has at most 15 bits, and one of zeros, which ends in a one, 14
+pub run-most : (ones : Bool) (m : ℕ) → m ≤ cond ones 15 14 → m ≤ 15
+run-most true m h = h
+run-most false m h = omega arith
+
+-- the first bit of a run, by the size of the pattern
+pub first-bit : (q : ℕ) → q < 2 ^ 15 → cond (leb (2 ^ 14) q) 1 0 ≡ bit 14 q
+first-bit q h = go (decLt q (2 ^ 14))
+  where
+    go : Dec (q < 2 ^ 14) → cond (leb (2 ^ 14) q) 1 0 ≡ bit 14 q
+    go (yes l) = rw (lt-leb (2 ^ 14) q l) (omega arith)
+    go (no l) = rw (le-leb (2 ^ 14) q (omega arith)) (omega arith)
+
+-- a pattern moved to the top of a word, and up until its run and the bit that ends it are gone
+pub moved-up : (q m : ℕ) → q < 2 ^ 15 → q * 2 ^ 49 % 2 ^ 64 * 2 ^ (m - 1) % 2 ^ 64 * 4 % 2 ^ 64 ≡ shifted m q % 2 ^ 13 * 2 ^ 51
+moved-up q m h =
+    ap (λ (x : ℕ). x * 2 ^ (m - 1) % 2 ^ 64 * 4 % 2 ^ 64) (let e : q * 2 ^ 49 % 2 ^ 64 ≡ q * 2 ^ 49 = omega arith in e)
+    ∙ ap (λ (x : ℕ). x % 2 ^ 64 * 4 % 2 ^ 64) (mul-right-comm q (2 ^ 49) (2 ^ (m - 1)))
+    ∙ (let e : shifted m q * 2 ^ 49 % 2 ^ 64 * 4 % 2 ^ 64 ≡ shifted m q % 2 ^ 13 * 2 ^ 51 = omega arith in e)
+
+-- the fields there
+pub exponent-up : (x : ℕ) → x / 4096 % 2 ≡ x % 2 ^ 13 * 2 ^ 51 / 2 ^ 63
+exponent-up x = sym (field x 1 12) ∙ sym (mul-div-mul-right (x % 2 ^ 13) (2 ^ 12) (pow-pos 51))
+
+pub fraction-up : (x : ℕ) → x % 4096 ≡ x % 2 ^ 13 * 2 ^ 51 / 2 ^ 51 % 4096
+fraction-up x = sym (ap (λ (y : ℕ). y % 4096) (shl-shr (x % 2 ^ 13) 51) ∙ mod-mod-pow x 1 12)

@@ -12,7 +12,7 @@ pub mod Laws
 pub mod Own
 pub mod Dyadic
 pub mod Fields
-pub mod Passing
+pub mod Counts
 pub mod Decodings
 pub mod Nearest
 pub mod Regimes

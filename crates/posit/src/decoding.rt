@@ -3,8 +3,10 @@
 // The sign bit is not looked at. Callers decode the magnitude of a number; zero and NaR, which have none, decode as the
 // smallest posit does.
 ghost use mathlib.Core.Path.{_≡_};
+ghost use mathlib.Core.Bool.{cond};
 ghost use Prim.Native.Nat.{_+_, _/_, _%_, _^_, _≤_, _<_};
-ghost use Rattle.posit.specs.Number.{magnitude};
+ghost use lib.Dec.{leb};
+ghost use Rattle.posit.specs.Number.{bit, run, regime, magnitude};
 ghost use Rattle.posit.specs.Decoding.{Decodes};
 
 // (1 + fraction / 4096) * 2^power, in units of 2^-28.
@@ -13,66 +15,61 @@ pub struct Decoded {
     pub fraction: u32,
 }
 
-// A pattern's regime, counted from the smallest, and its bits with the run shifted out: the end of the run stands at bit 13,
-// the exponent at bit 12 and the fraction below.
+// A pattern's regime, counted from the smallest, and its bits with the run and the bit that ends it shifted out: the exponent
+// stands at bit 63 and the fraction below it.
 struct Fields {
     regime: u32,
-    bits: u32,
+    bits: u64,
 }
 
-// The fields of a pattern that starts with zeros. In this form clang makes the loop a count of leading zeros on Arm.
-fn past_zeros(p: u32) -> Fields
-    requires { ⌜ (0 < p) × (p < 2 ^ 14) ⌝ }
-    ensures { λ f. ⌜ Decodes p (f .regime + f .bits / 4096 % 2) (f .bits % 4096) ⌝ }
+// How long a pattern's run is: how many of its bits after the sign, from the first of them on, equal that one. It ends because
+// there is no loop. The bits are moved to the top of a word, so that nothing stands before them; a word that starts with ones is
+// turned over, bit for bit, so that either run is one of zeros. The first bit is counted by itself, and those after it by one
+// instruction, which counts zeros up to the first one; the one put in behind the last bit is there in any case.
+fn run_length(q: u16) -> u32
+    requires { ⌜ (0 < q) × (q < 2 ^ 15) ⌝ }
+    ensures { λ m. ⌜ m ≡ run (bit 14 q) 15 q ⌝ }
+    ensures { λ m. ⌜ (1 ≤ m) × (m ≤ cond (leb (2 ^ 14) q) 15 14) ⌝ }
 {
-    let mut bits = p;
-    let mut regime: u32 = 26;
-    while (bits >> 13) % 2 == 0 {
-        bits <<= 1;
-        regime -= 2;
-    }
-    Fields {
-        regime: regime,
-        bits: bits,
-    }
+    let w = (q as u64) << 49;
+    let zeros = if w < 0x8000_0000_0000_0000 {
+        w
+    } else {
+        0xFFFF_FFFF_FFFF_FFFF - w
+    };
+    1 + u64::leading_zeros(2 * zeros + 1)
 }
 
-// The fields of a pattern that starts with ones.
-fn past_ones(p: u32) -> Fields
-    requires { ⌜ (2 ^ 14 ≤ p) × (p < 2 ^ 15) ⌝ }
-    ensures { λ f. ⌜ Decodes p (f .regime + f .bits / 4096 % 2) (f .bits % 4096) ⌝ }
+// The regime of a run of m bits, counted from the smallest: r is m - 1 for ones and -m for zeros, and each step of r is two.
+fn regime_of(ones: bool, m: u32) -> u32
+    requires { ⌜ (1 ≤ m) × (m ≤ cond ones 15 14) ⌝ }
+    ensures { λ r. ⌜ r ≡ regime 1 16 (cond ones 1 0) m ⌝ }
 {
-    let mut bits = p;
-    let mut regime: u32 = 28;
-    while (bits >> 13) % 2 == 1 {
-        bits <<= 1;
-        regime += 2;
-    }
-    Fields {
-        regime: regime,
-        bits: bits,
-    }
+    let r = if ones { m as i32 - 1 } else { 0 - m as i32 };
+    (28 + 2 * r) as u32
 }
 
 // The fields of a pattern. The sign bit is left out, and zero is taken for 1.
 fn fields_of(p: u16) -> Fields
-    ensures { λ f. ⌜ Decodes p (f .regime + f .bits / 4096 % 2) (f .bits % 4096) ⌝ }
+    ensures { λ f. ⌜ Decodes p (f .regime + f .bits / 2 ^ 63) (f .bits / 2 ^ 51 % 4096) ⌝ }
+    ensures { λ f. ⌜ f .bits % 2 ^ 51 ≡ 0 ⌝ }
 {
-    let q = (p % 0x8000) as u32;
-    if q < 0x4000 {
-        return past_zeros(if q == 0 { 1 } else { q });
+    let low = p % 0x8000;
+    let q = if low == 0 { 1 } else { low };
+    let m = run_length(q);
+    Fields {
+        regime: regime_of(0x4000 <= q, m),
+        bits: (((q as u64) << 49) << (m - 1)) << 2,
     }
-    past_ones(q)
 }
 
 pub fn decode(p: u16) -> Decoded
     ensures { λ d. ⌜ Decodes p (d .power) (d .fraction) ⌝ }
 {
     let f = fields_of(p);
-    let w = 4096 * f.regime + f.bits % 8192;
     Decoded {
-        power: w / 4096,
-        fraction: w % 4096,
+        power: f.regime + (f.bits / 0x8000_0000_0000_0000) as u32,
+        fraction: ((f.bits >> 51) % 4096) as u32,
     }
 }
 
@@ -81,6 +78,6 @@ pub fn units(p: u16) -> u64
     ensures { λ r. ⌜ r ≡ magnitude 1 16 p ⌝ }
 {
     let f = fields_of(p);
-    let lead = 0x8000_0000_0000_0000 + (((f.bits % 4096) as u64) << 51);
-    lead >> (63 - f.regime - f.bits / 4096 % 2)
+    let lead = 0x8000_0000_0000_0000 + f.bits % 0x8000_0000_0000_0000;
+    lead >> (63 - f.regime - (f.bits / 0x8000_0000_0000_0000) as u32)
 }

@@ -1,11 +1,13 @@
 // The rounding rule. Every answer that is no plain pattern is rounded here.
 ghost use mathlib.Core.Path.{_≡_};
 ghost use mathlib.Core.Bool.{cond};
-ghost use Prim.Native.Nat.{_-_, _*_, _/_, _%_, _^_, _≤_, _<_};
+ghost use Prim.Native.Nat.{_+_, _-_, _*_, _/_, _%_, _^_, _≤_, _<_};
 ghost use lib.Dec.{ltb};
 ghost use lib.IntN.{pos, natAbs, _+ℤ_};
 ghost use lib.Signed.{mag, ltZ};
 ghost use lib.Ieee.{up, down};
+ghost use mir.Syntax.{w64};
+ghost use mir.Val.{ofZ};
 ghost use Rattle.posit.specs.Rounding.{ratio, dyadic, Rounded, Rounds};
 
 // How many bits of the regime's run follow its first, for a number whose power of two is p.
@@ -20,16 +22,30 @@ fn run_after(p: i32) -> u32
     }
 }
 
-// The pattern of 17 bits with the regime of p and only zeros after it, 48 places up.
-fn base_of(p: i32, k: u32) -> u64
-    requires { ⌜ k ≤ 13 ⌝ }
-    ensures { λ b. ⌜ b ≡ cond (ltZ p (pos 0)) (2 ^ (14 - k)) (2 ^ 16 - 2 ^ (15 - k)) * 2 ^ 48 ⌝ }
+// The bits of a signed word.
+fn bits_of(w: i64) -> u64
+    ensures { λ r. ⌜ r ≡ ofZ w64 w ⌝ }
 {
-    if p < 0 {
-        0x4000_0000_0000_0000 >> k
+    if w < 0 {
+        0x8000_0000_0000_0000 + (w - i64::MIN) as u64
     } else {
-        0xFFFF_FFFF_FFFF_FFFF - ((0x8000_0000_0000_0000 >> k) - 1)
+        w as u64
     }
+}
+
+// The pattern of 17 bits with the regime of p and x after it, 48 places up. Before x stand 01, or 10 where p is not below zero:
+// the last bit of the run and the one that ends it. One signed shift by k, which are the bits of the run that follow its first,
+// puts these before them: it fills up with copies of the top bit.
+fn laid_out(p: i32, k: u32, x: u64) -> u64
+    requires { ⌜ (k ≤ 13) × (x < 2 ^ 62) ⌝ }
+    ensures { λ v. ⌜ v ≡ cond (ltZ p (pos 0)) (2 ^ (14 - k)) (2 ^ 16 - 2 ^ (15 - k)) * 2 ^ 48 + x / 2 ^ k ⌝ }
+{
+    let start = if p < 0 {
+        0x4000_0000_0000_0000
+    } else {
+        i64::MIN
+    };
+    bits_of((start + x as i64) >> k)
 }
 
 // f / 2^63 * 2^p, for f with its top bit set and p from -28 to 27; rest tells whether anything stands in f's lowest 15 bits,
@@ -43,7 +59,7 @@ fn place(f: u64, p: i32, rest: bool) -> u16
     let k = run_after(p);
     let x = (f - 0x8000_0000_0000_0000) / 4
         + (((p + 30) as u32 % 2) as u64) * 0x2000_0000_0000_0000;
-    let v = base_of(p, k) + (x >> k);
+    let v = laid_out(p, k, x);
     let more = if rest { 1 } else { (v >> 49) % 2 };
     ((v + 0xFFFF_FFFF_FFFF + more) >> 49) as u16
 }

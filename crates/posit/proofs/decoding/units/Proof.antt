@@ -1,6 +1,6 @@
 -- `posit::decoding::units` meets its contract: the number that `fields_of` says, shifted to units, is whole and fits.
 use borrow.Author.Needs.{needs}
-use Prim.Native.Nat.{_+_, _/_, _%_}
+use Prim.Native.Nat.{_+_, _/_, _%_, _^_}
 use native.Mathlib.Omega.{arith}
 use Rattle.posit.proofs.Decodings.{scaled-back}
 use Rattle.posit.proofs.decoding.units.Statement.{statement}
@@ -9,20 +9,20 @@ use Rattle.posit.proofs.decoding.units.Tie as tie
 fields-of-requires : tie.Need-fields-of-requires
 fields-of-requires c κs = search needs
 
-cast-lead : tie.Need-cast-lead
-cast-lead c = search needs
-
 add-lead : tie.Need-add-lead
 add-lead c = search needs
 
 sub-result : tie.Need-sub-result
 sub-result c = search needs
 
+cast-result : tie.Need-cast-result
+cast-result c = search needs
+
 sub-result-2 : tie.Need-sub-result-2
 sub-result-2 c = search needs
 
-cast-result : tie.Need-cast-result
-cast-result c = search needs
+cast-result-2 : tie.Need-cast-result-2
+cast-result-2 c = search needs
 
 shr-result : tie.Need-shr-result
 shr-result c = search needs
@@ -31,7 +31,7 @@ returns : tie.Need-returns
 returns c =
     let f = c .before .before .before .fields-of .result in
     let h = c .before .before .before .fields-of .ensures in
-    scaled-back _ (f .bits % 4096) (f .regime + f .bits / 4096 % 2) _ _ (h .value) (omega arith) (omega arith)
+    scaled-back _ (f .bits / 2 ^ 51 % 4096) (f .regime + f .bits / 2 ^ 63) _ _ (h .0 .value) (omega arith) (omega arith)
 
 pub units-spec : {M : Type 1} → statement M
-units-spec = tie.close (tie.spec fields-of-requires cast-lead add-lead sub-result sub-result-2 cast-result shr-result returns)
+units-spec = tie.close (tie.spec fields-of-requires add-lead sub-result cast-result sub-result-2 cast-result-2 shr-result returns)

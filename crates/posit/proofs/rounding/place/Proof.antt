@@ -64,12 +64,8 @@ module _ (c : tie.After-run-after) where
   tail : k + (14 - k) ≡ 14
   tail = omega (arith, few)
 
-  -- the pattern, and what is added to the layout's base for it, as it is computed
   abbrev pattern : ℕ
   pattern = wide f s (14 - k) b (omega arith) (omega arith) layout k tail
-
-  abbrev added : ℕ
-  added = ((f - 2 ^ 63) / 4 + natAbs (toZ w32 (ofZ w32 (toZ w32 (ofZ w32 p) +ℤ pos 30))) % 2 * 2 ^ 61) / 2 ^ k
 
   most : pattern < 65534 * 2 ^ 48
   most = wide-most f s (14 - k) b (omega arith) (omega arith) layout k tail
@@ -95,23 +91,15 @@ mul-x c = search needs
 add-x-2 : tie.Need-add-x-2
 add-x-2 c = search needs
 
-base-of-requires : tie.Need-base-of-requires
-base-of-requires c κs = few c
+laid-out-requires : tie.Need-laid-out-requires
+laid-out-requires c κs = (few c, search needs)
 
-cast-v : tie.Need-cast-v
-cast-v c = search needs
-
-shr-v : tie.Need-shr-v
-shr-v c = omega (arith, few (c .before))
-
-wide-read : (c : tie.After-base-of) → c .base-of .result + added (c .before) ≡ pattern (c .before)
+wide-read : (c : tie.After-laid-out) → c .laid-out .result ≡ pattern (c .before)
 wide-read c =
     let a = c .before in
-    let base = c .base-of .ensures ∙ ap (λ (z : ℤ). cond (ltZ z (pos 0)) (2 ^ (14 - k a)) (2 ^ 16 - 2 ^ (15 - k a)) * 2 ^ 48) (p-read a) in
-    λ i. base i + ((f a - 2 ^ 63) / 4 + natAbs (power-read a i) % 2 * 2 ^ 61) / 2 ^ k a
-
-add-v : tie.Need-add-v
-add-v c = fits-of-lt (let e = wide-read c in let m = most (c .before) in omega arith)
+    c .laid-out .ensures
+    ∙ (λ i. cond (ltZ (p-read a i) (pos 0)) (2 ^ (14 - k a)) (2 ^ 16 - 2 ^ (15 - k a)) * 2 ^ 48
+    + ((f a - 2 ^ 63) / 4 + natAbs (power-read a i) % 2 * 2 ^ 61) / 2 ^ k a)
 
 -- what is added is at most 1
 little : (c : tie.Joined1) → c .if1 .more ≤ 1
@@ -151,10 +139,7 @@ place-spec =
     cast-x-2
     mul-x
     add-x-2
-    base-of-requires
-    cast-v
-    shr-v
-    add-v
+    laid-out-requires
     add-result
     add-result-2
     cast-result
