@@ -1,8 +1,8 @@
 // The ten functions of softposit 0.4.0 and those of balehasp on the same inputs, called one by one through pointers of one
-// type; then the batch and the listing beside plain loops over the Rust functions; then the operations and the turn, which have
-// no Rust beside them. Prints nanoseconds a call or a pattern, the median of several runs that take turns, and the ratio. The clock is the thread's own, which stands still while other
-// programs have the processor. With the words `count SIDE WORK` one side does one thing once and nothing is printed, for a
-// tool that counts instructions.
+// type, in three orders; then the batch and the listing beside plain loops over the Rust functions; then the operations and the
+// turn, which have no Rust beside them. Prints nanoseconds a call or a pattern, the median of several runs that take turns, and
+// the ratio. The clock is the thread's own, which stands still while other programs have the processor. With the words
+// `count SIDE WORK` one side does one thing once and nothing is printed, for a tool that counts instructions.
 mod original;
 
 use original::P16E1;
@@ -141,15 +141,42 @@ fn our_listing(input: &[u8], output: &mut [u8]) -> usize {
     written
 }
 
-// All patterns in an order that a linear congruential generator shuffles, the same in every run.
+// A linear congruential generator, the same in every run.
+struct Chance(u64);
+
+impl Chance {
+    // A number below n.
+    fn below(&mut self, n: usize) -> usize {
+        self.0 = self.0.wrapping_mul(6_364_136_223_846_793_005).wrapping_add(1_442_695_040_888_963_407);
+        (self.0 >> 33) as usize % n
+    }
+}
+
+// All patterns, shuffled.
 fn shuffled() -> Vec<u16> {
     let mut order: Vec<u16> = (0..=u16::MAX).collect();
-    let mut state = 20_261_115_u64;
+    let mut chance = Chance(20_261_115);
     for i in (1..order.len()).rev() {
-        state = state.wrapping_mul(6_364_136_223_846_793_005).wrapping_add(1_442_695_040_888_963_407);
-        order.swap(i, (state >> 33) as usize % (i + 1));
+        order.swap(i, chance.below(i + 1));
     }
     order
+}
+
+// Patterns as readings drift: walks that start anywhere, each step up to 50 patterns either way. The pattern after 0xFFFF is 0.
+fn drifting() -> Vec<u16> {
+    const WALKS: usize = 256;
+    const STEPS: usize = 256;
+    const FARTHEST: u16 = 50;
+    let mut chance = Chance(20_261_116);
+    let mut readings = Vec::new();
+    for _ in 0..WALKS {
+        let mut p = chance.below(65_536) as u16;
+        for _ in 0..STEPS {
+            readings.push(p);
+            p = p.wrapping_add(chance.below(usize::from(2 * FARTHEST + 1)) as u16).wrapping_sub(FARTHEST);
+        }
+    }
+    readings
 }
 
 fn listing_of(patterns: &[u16]) -> Vec<u8> {
@@ -256,13 +283,16 @@ fn main() {
         return count(side, work, &random);
     }
     let in_order: Vec<u16> = (0..=u16::MAX).collect();
+    let drifting = drifting();
     println!("{:<34} {:>8} {:>8} {:>7}", "ns a call", "Rust", "balehasp", "ratio");
     functions("in order", &in_order);
     functions("random order", &random);
+    functions("drifting", &drifting);
     for length in [4_096, 16_384, 65_536] {
         batches(&random[..length]);
     }
     listings(&random[..1024]);
     operations("in order", &in_order);
     operations("random order", &random);
+    operations("drifting", &drifting);
 }

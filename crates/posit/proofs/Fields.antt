@@ -125,13 +125,13 @@ pub run-most : (ones : Bool) (m : ℕ) → m ≤ cond ones 15 14 → m ≤ 15
 run-most true m h = h
 run-most false m h = omega arith
 
--- the first bit of a run, by the size of the pattern
-pub first-bit : (q : ℕ) → q < 2 ^ 15 → cond (leb (2 ^ 14) q) 1 0 ≡ bit 14 q
-first-bit q h = go (decLt q (2 ^ 14))
+-- the first bit of a word, by its size
+pub first-bit : (w : ℕ) → w < 2 ^ 64 → cond (leb (2 ^ 63) w) 1 0 ≡ bit 63 w
+first-bit w h = go (decLt w (2 ^ 63))
   where
-    go : Dec (q < 2 ^ 14) → cond (leb (2 ^ 14) q) 1 0 ≡ bit 14 q
-    go (yes l) = rw (lt-leb (2 ^ 14) q l) (omega arith)
-    go (no l) = rw (le-leb (2 ^ 14) q (omega arith)) (omega arith)
+    go : Dec (w < 2 ^ 63) → cond (leb (2 ^ 63) w) 1 0 ≡ bit 63 w
+    go (yes l) = rw (lt-leb (2 ^ 63) w l) (omega arith)
+    go (no l) = rw (le-leb (2 ^ 63) w (omega arith)) (omega arith)
 
 -- a pattern moved to the top of a word, and up until its run and the bit that ends it are gone
 pub moved-up : (q m : ℕ) → q < 2 ^ 15 → q * 2 ^ 49 % 2 ^ 64 * 2 ^ (m - 1) % 2 ^ 64 * 4 % 2 ^ 64 ≡ shifted m q % 2 ^ 13 * 2 ^ 51

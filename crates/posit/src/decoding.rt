@@ -23,15 +23,14 @@ struct Fields {
 }
 
 // How long a pattern's run is: how many of its bits after the sign, from the first of them on, equal that one. It ends because
-// there is no loop. The bits are moved to the top of a word, so that nothing stands before them; a word that starts with ones is
-// turned over, bit for bit, so that either run is one of zeros. The first bit is counted by itself, and those after it by one
-// instruction, which counts zeros up to the first one; the one put in behind the last bit is there in any case.
-fn run_length(q: u16) -> u32
-    requires { ⌜ (0 < q) × (q < 2 ^ 15) ⌝ }
-    ensures { λ m. ⌜ m ≡ run (bit 14 q) 15 q ⌝ }
-    ensures { λ m. ⌜ (1 ≤ m) × (m ≤ cond (leb (2 ^ 14) q) 15 14) ⌝ }
+// there is no loop. w has these bits at its top and nothing else; where it starts with a one it is turned over, bit for bit, so
+// that either run is one of zeros. The first bit is counted by itself, and those after it by one instruction, which counts zeros
+// up to the first one; the one that is put in behind the last bit is there in any case.
+fn run_length(w: u64) -> u32
+    requires { ⌜ (2 ^ 49 ≤ w) × (w % 2 ^ 49 ≡ 0) ⌝ }
+    ensures { λ m. ⌜ m ≡ run (bit 63 w) 15 (w / 2 ^ 49) ⌝ }
+    ensures { λ m. ⌜ (1 ≤ m) × (m ≤ cond (leb (2 ^ 63) w) 15 14) ⌝ }
 {
-    let w = (q as u64) << 49;
     let zeros = if w < 0x8000_0000_0000_0000 {
         w
     } else {
@@ -54,12 +53,12 @@ fn fields_of(p: u16) -> Fields
     ensures { λ f. ⌜ Decodes p (f .regime + f .bits / 2 ^ 63) (f .bits / 2 ^ 51 % 4096) ⌝ }
     ensures { λ f. ⌜ f .bits % 2 ^ 51 ≡ 0 ⌝ }
 {
-    let low = p % 0x8000;
-    let q = if low == 0 { 1 } else { low };
-    let m = run_length(q);
+    let q = (p % 0x8000) as u64;
+    let w = (if q == 0 { 1 } else { q }) << 49;
+    let m = run_length(w);
     Fields {
-        regime: regime_of(0x4000 <= q, m),
-        bits: (((q as u64) << 49) << (m - 1)) << 2,
+        regime: regime_of(0x8000_0000_0000_0000 <= w, m),
+        bits: (w << (m - 1)) << 2,
     }
 }
 

@@ -1,6 +1,6 @@
 -- `posit::decoding::run_length` meets its contract: the highest one of what is counted is that of `Counts`.
 use borrow.Author.Needs.{needs}
-use Prim.Native.Nat.{ℕ, _+_, _*_, _^_, _≤_, _<_}
+use Prim.Native.Nat.{ℕ, _+_, _*_, _/_, _^_, _≤_, _<_}
 use mathlib.Core.Path.{_≡_}
 use mathlib.Core.Logic.{_⊎_, inl, inr, ⊎-elim}
 use native.Mathlib.Omega.{arith}
@@ -16,14 +16,17 @@ sub-zeros : tie.Need-sub-zeros
 sub-zeros c = search needs
 
 module _ (c : tie.Joined1) where
+  abbrev w : ℕ
+  w = c .before .args .w
+
   abbrev q : ℕ
-  q = c .before .args .q
+  q = w / 2 ^ 49
 
   abbrev z : ℕ
   z = c .if1 .zeros
 
   -- what is counted, by the bit that runs
-  counted : ((q < 2 ^ 14) × (z ≡ q * 2 ^ 49)) ⊎ ((2 ^ 14 ≤ q) × (z + q * 2 ^ 49 + 1 ≡ 2 ^ 64))
+  counted : ((w < 2 ^ 63) × (z ≡ q * 2 ^ 49)) ⊎ ((2 ^ 63 ≤ w) × (z + q * 2 ^ 49 + 1 ≡ 2 ^ 64))
   counted = ⊎-elim (λ d. inl (omega arith, omega arith)) (λ d. inr (omega arith, omega arith)) (c .if1 .came)
 
   small : z < 2 ^ 63
@@ -40,18 +43,18 @@ add-result-2 c = fits-of-lt (omega (arith, leading-le 64 (2 * z (c .before) + 1)
 
 returns : tie.Need-returns
 returns c =
-    let w = c .before in
-    let t = leading-top 64 (2 * z w + 1) (omega arith) (omega (arith, small w)) in
+    let j = c .before in
+    let t = leading-top 64 (2 * z j + 1) (omega arith) (omega (arith, small j)) in
     ⊎-elim
     (λ d.
-    let b : bit 14 (q w) ≡ 0 = omega arith in
-    let r = zeros-counted (q w) (t .0) (omega arith) (omega arith) (omega (arith, t .2)) (omega (arith, t .3)) in
-    rw (b, lt-leb (2 ^ 14) (q w) (omega arith)) (omega (arith, t .1), (omega arith, omega (arith, t .1))))
+    let b : bit 63 (w j) ≡ 0 = omega arith in
+    let r = zeros-counted (q j) (t .0) (omega arith) (omega arith) (omega (arith, t .2)) (omega (arith, t .3)) in
+    rw (b, lt-leb (2 ^ 63) (w j) (omega arith)) (omega (arith, t .1), (omega arith, omega (arith, t .1))))
     (λ d.
-    let b : bit 14 (q w) ≡ 1 = omega arith in
-    let r = ones-counted (q w) (t .0) (omega arith) (omega arith) (omega (arith, t .2)) (omega (arith, t .3)) in
-    rw (b, le-leb (2 ^ 14) (q w) (omega arith)) (omega (arith, t .1), (omega arith, omega (arith, t .1))))
-    (counted w)
+    let b : bit 63 (w j) ≡ 1 = omega arith in
+    let r = ones-counted (q j) (t .0) (omega arith) (omega arith) (omega (arith, t .2)) (omega (arith, t .3)) in
+    rw (b, le-leb (2 ^ 63) (w j) (omega arith)) (omega (arith, t .1), (omega arith, omega (arith, t .1))))
+    (counted j)
 
 pub run-length-spec : {M : Type 1} → statement M
 run-length-spec = tie.close (tie.spec sub-zeros mul-result add-result add-result-2 returns)
