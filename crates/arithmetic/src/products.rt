@@ -32,6 +32,6 @@ pub fn multiply(a: u16, b: u16) -> u16
     let s = parts_of(a);
     let t = parts_of(b);
     let m = (s.significand as u64) * (t.significand as u64);
-    let e = (s.power + t.power) as i32 - 80;
+    let e = ((s.power + t.power) % 128) as i32 - 80; // the remainder tells the compiler: it is small
     posit::signed((0x8000 < a) != (0x8000 < b), posit::round(m, e))
 }

@@ -1,5 +1,5 @@
 -- `arithmetic::products::multiply` meets its contract.
-use Prim.Native.Nat.{ℕ, _+_, _*_, _^_, _≤_}
+use Prim.Native.Nat.{ℕ, _+_, _*_, _%_, _^_, _≤_}
 use mathlib.Core.Path.{_≡_, _∙_, ap, subst, subst⁻¹}
 use native.Mathlib.Omega.{arith}
 use borrow.Author.Needs.{needs}
@@ -61,13 +61,13 @@ module _ (c : tie.After-parts-of2) where
   few : w + v ≤ 114
   few = let h = c .before .parts-of .ensures .few in let k = c .parts-of2 .ensures .few in omega (arith, h, k)
 
-  plus : toZ w32 (w + v) ≡ pos (w + v)
-  plus = toZ-pos w32 {n = w + v} (omega (arith, few))
+  plus : toZ w32 ((w + v) % 128) ≡ pos (w + v)
+  plus = toZ-pos w32 {n = (w + v) % 128} (omega arith) ∙ ap pos (let e : (w + v) % 128 ≡ w + v = omega (arith, few) in e)
 
-  less-fits : SFits w32 (toZ w32 (w + v) -ℤ pos 80)
+  less-fits : SFits w32 (toZ w32 ((w + v) % 128) -ℤ pos 80)
   less-fits = rw plus (let l = mag-small (w + v) 80 (2 ^ 31) (omega (arith, few)) (omega arith) in record { sfits = l })
 
-  power : toZ w32 (ofZ w32 (toZ w32 (w + v) -ℤ pos 80)) ≡ pos (w + v) -ℤ pos 80
+  power : toZ w32 (ofZ w32 (toZ w32 ((w + v) % 128) -ℤ pos 80)) ≡ pos (w + v) -ℤ pos 80
   power = toZ-ofZ less-fits ∙ ap (λ (z : ℤ). z -ℤ pos 80) plus
 
   -- the exact product
@@ -81,7 +81,7 @@ add-e : tie.Need-add-e
 add-e c = let f = few (c .before .before .before .before) in record { fits = omega (arith, f) }
 
 cast-e : tie.Need-cast-e
-cast-e c = let f = few (c .before .before .before .before) in record { sfits = omega (arith, f) }
+cast-e c = record { sfits = omega arith }
 
 sub-e : tie.Need-sub-e
 sub-e c = less-fits (c .before .before .before .before)
