@@ -46,9 +46,39 @@ fn write_answers(input: &[u8], functions: usize, patterns: usize, output: &mut [
     }
 }
 
-// Writes one function's answers to the `patterns` patterns that stand from the place `from` on. It reads and writes bytes itself:
-// whether they are there, which `number_at` and `put_number` ask each time, is known of all of them.
+// Writes one function's answers to the `patterns` patterns that stand from the place `from` on. The function is chosen here, once
+// for all of them: each arm hands on a number that the compiler knows, so that it makes a loop with that one function in it.
 fn write_row(
+    function: u16,
+    input: &[u8],
+    from: usize,
+    patterns: usize,
+    output: &mut [u8],
+    to: usize,
+)
+    requires { ⌜ known function ≡ true ⌝ }
+    requires { ⌜ from + 2 * patterns ≤ length (now input) ⌝ }
+    requires { ⌜ to + 2 * patterns ≤ length (now output) ⌝ }
+    ensures { λ _. ⌜ now (output .exit) ≡ sets (now (output .entry)) to (bytesOfAll (map (answerOf function) (numbersAt (now (input .entry)) from patterns))) ⌝ }
+{
+    match function {
+        1 => write_row_by(1, input, from, patterns, output, to),
+        2 => write_row_by(2, input, from, patterns, output, to),
+        3 => write_row_by(3, input, from, patterns, output, to),
+        4 => write_row_by(4, input, from, patterns, output, to),
+        5 => write_row_by(5, input, from, patterns, output, to),
+        6 => write_row_by(6, input, from, patterns, output, to),
+        7 => write_row_by(7, input, from, patterns, output, to),
+        8 => write_row_by(8, input, from, patterns, output, to),
+        9 => write_row_by(9, input, from, patterns, output, to),
+        10 => write_row_by(10, input, from, patterns, output, to),
+        _ => {}
+    }
+}
+
+// The same, with the function chosen anew for each pattern. It reads and writes bytes itself: whether they are there, which
+// `number_at` and `put_number` ask each time, is known of all of them.
+fn write_row_by(
     function: u16,
     input: &[u8],
     from: usize,

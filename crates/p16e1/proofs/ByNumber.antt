@@ -1,7 +1,8 @@
 -- The function by number: the numbers that are known, and the one answer that a known function has.
-use Prim.Native.Nat.{ℕ, _≤_, _<_}
+use Prim.Native.Nat.{ℕ, _+_, _≤_, _<_}
 use mathlib.Core.Path.{_≡_, ap, refl}
 use mathlib.Core.Bool.{true, false, cond}
+use native.Mathlib.Decide.{decLt}
 use native.Mathlib.Omega.{arith}
 use borrow.Author.Tests.{le-leb, lt-leb}
 use lib.Dec.{eqb, lit≤}
@@ -34,6 +35,23 @@ unknown-below f l = rw (lt-leb 1 f l)
 
 pub unknown-above : (f : ℕ) → 10 < f → known f ≡ false
 unknown-above f h = rw (le-leb 1 f (omega arith), lt-leb f 10 h)
+
+-- What the last arm of a match over the ten numbers is told.
+abbrev pub NoneOfTen : ℕ → Type 0
+NoneOfTen f =
+    (((((((((Unit {0} × (f ≡ 1 → ⊥)) × (f ≡ 2 → ⊥)) × (f ≡ 3 → ⊥)) × (f ≡ 4 → ⊥)) × (f ≡ 5 → ⊥)) × (f ≡ 6 → ⊥)) × (f ≡ 7 → ⊥)) × (f ≡ 8 → ⊥))
+    × (f ≡ 9 → ⊥)) × (f ≡ 10 → ⊥)
+
+past-five : (k f : ℕ) → k ≤ f → (f ≡ k → ⊥) → (f ≡ k + 1 → ⊥) → (f ≡ k + 2 → ⊥) → (f ≡ k + 3 → ⊥) → (f ≡ k + 4 → ⊥) → k + 5 ≤ f
+past-five k f l n₀ n₁ n₂ n₃ n₄ = omega arith
+
+outside : (f : ℕ) → Dec (f < 1) → (1 ≤ f → 10 < f) → known f ≡ false
+outside f (yes h) out = unknown-below f h
+outside f (no h) out = unknown-above f (out (omega arith))
+
+pub unknown-none : (f : ℕ) → NoneOfTen f → known f ≡ false
+unknown-none f ((((((((((u, n₁), n₂), n₃), n₄), n₅), n₆), n₇), n₈), n₉), n₁₀) =
+    outside f (decLt f 1) (λ l. past-five 6 f (past-five 1 f l n₁ n₂ n₃ n₄ n₅) n₆ n₇ n₈ n₉ n₁₀)
 
 -- each row by its number
 row-straight : (f p : ℕ) → StraightRow (rowOf f p)

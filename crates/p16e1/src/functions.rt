@@ -12,19 +12,10 @@ pub enum Answered {
 pub fn answer(function: u16, p: u16) -> Answered
     ensures { λ r. ⌜ Answers function p r ⌝ }
 {
-    match function {
-        1 => Answered::Pattern(exponential::exp(p)),
-        2 => Answered::Pattern(exponential::exp2(p)),
-        3 => Answered::Pattern(logarithm::ln(p)),
-        4 => Answered::Pattern(logarithm::log2(p)),
-        5 => Answered::Pattern(circular::sin_pi(p)),
-        6 => Answered::Pattern(circular::cos_pi(p)),
-        7 => Answered::Pattern(circular::tan_pi(p)),
-        8 => Answered::Pattern(arc::atan_pi(p)),
-        9 => Answered::Pattern(arc::asin_pi(p)),
-        10 => Answered::Pattern(arc::acos_pi(p)),
-        _ => Answered::Unknown,
+    if is_known(function) {
+        return Answered::Pattern(answer_or_nar(function, p));
     }
+    Answered::Unknown
 }
 
 // Whether a function has that number.
@@ -41,8 +32,17 @@ pub fn is_known(function: u16) -> bool
 pub fn answer_or_nar(function: u16, p: u16) -> u16
     ensures { λ r. ⌜ r ≡ cond (known function) (answerOf function p) 0x8000 ⌝ }
 {
-    let Answered::Pattern(a) = answer(function, p) else {
-        return 0x8000;
-    };
-    a
+    match function {
+        1 => exponential::exp(p),
+        2 => exponential::exp2(p),
+        3 => logarithm::ln(p),
+        4 => logarithm::log2(p),
+        5 => circular::sin_pi(p),
+        6 => circular::cos_pi(p),
+        7 => circular::tan_pi(p),
+        8 => arc::atan_pi(p),
+        9 => arc::asin_pi(p),
+        10 => arc::acos_pi(p),
+        _ => 0x8000,
+    }
 }

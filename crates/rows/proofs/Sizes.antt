@@ -1,13 +1,14 @@
 -- Bounds on a number in units of 2 ^ -28, from the pattern of its magnitude.
-use Prim.Native.Nat.{ℕ, zero, suc, _+_, _-_, _^_, _≤_, _<_}
-use mathlib.Core.Path.{_≡_, ap, refl}
-use mathlib.Core.Logic.{⊎-elim}
+use Prim.Native.Nat.{ℕ, zero, suc, _+_, _-_, _%_, _^_, _≤_, _<_}
+use mathlib.Core.Path.{_≡_, _∙_, ap, refl, sym}
+use mathlib.Core.Bool.{cond}
+use mathlib.Core.Logic.{_⊎_, inl, inr, ⊎-elim}
 use native.Mathlib.Omega.{arith}
 use native.Mathlib.Nat.{eq-or-lt-of-le, le-of-eq, le-of-lt, le-trans}
-use native.Mathlib.Decide.{decLt}
+use native.Mathlib.Decide.{decLt, ℕ-discrete}
 use borrow.Author.Tests.{lt-ltb, le-ltb}
-use lib.Dec.{lit≤}
-use Rattle.posit.specs.Number.{magnitude, run, size}
+use lib.Dec.{ltb, lit≤}
+use Rattle.posit.specs.Number.{magnitude, opposite, run, size}
 use Rattle.posit.proofs.Growth.{larger}
 use Rattle.posit.proofs.Complement.{opposite-is}
 
@@ -19,6 +20,25 @@ size-plus p h = rw (le-ltb 0x8000 p h)
 
 pub size-minus : (p : ℕ) → 0x8000 < p → size 16 p ≡ 0x10000 - p
 size-minus p h = rw (lt-ltb 0x8000 p h) (opposite-is 16 p (omega arith))
+
+-- the sign bit tells the sign of every number, and the magnitude of NaR too, which is its own opposite
+sign-bit : (p : ℕ) → (p ≡ 0x8000 → ⊥) → ltb 0x7fff p ≡ ltb 0x8000 p
+sign-bit p real = go (decLt 0x8000 p)
+  where
+    go : Dec (0x8000 < p) → ltb 0x7fff p ≡ ltb 0x8000 p
+    go (yes k) = lt-ltb 0x7fff p (omega arith) ∙ sym (lt-ltb 0x8000 p k)
+    go (no k) = le-ltb 0x7fff p (omega arith) ∙ sym (le-ltb 0x8000 p (omega arith))
+
+pub sign-by-bit : (p u : ℕ) → (p ≡ 0x8000 → ⊥) → cond (ltb 0x7fff p) (opposite 16 u) u ≡ cond (ltb 0x8000 p) (opposite 16 u) u
+sign-by-bit p u real = rw (sign-bit p real)
+
+pub size-by-bit : (p : ℕ) → cond (ltb 0x7fff p) (opposite 16 p) p ≡ size 16 p
+unfolding opposite
+size-by-bit p = go (ℕ-discrete p 0x8000)
+  where
+    go : Dec (p ≡ 0x8000) → cond (ltb 0x7fff p) (opposite 16 p) p ≡ size 16 p
+    go (yes e) = rw e
+    go (no k) = sign-by-bit p p k
 
 -- a pattern below v or above its opposite has a magnitude from 1 to v
 pub sized : (p v : ℕ) → 0 < p → p < 0x10000 → v ≤ 0x7fff → (v < p → 0x10000 ≤ p + v) → (1 ≤ size 16 p) × (size 16 p ≤ v)
@@ -58,6 +78,19 @@ size-some p h real some =
     zero-not : (p : ℕ) → (size 16 p ≡ 0 → ⊥) → 0 < p
     zero-not zero some = absurd (some refl)
     zero-not (suc p) some = omega arith
+
+-- only the magnitudes of zero and NaR have fifteen zeros at the end
+pub low-zero : (p : ℕ) → p < 0x10000 → size 16 p % 0x8000 ≡ 0 → (p ≡ 0) ⊎ (p ≡ 0x8000)
+low-zero p h z = go (ℕ-discrete p 0x8000) (decLt 0 p)
+  where
+    go : Dec (p ≡ 0x8000) → Dec (0 < p) → (p ≡ 0) ⊎ (p ≡ 0x8000)
+    go (yes e) l = inr e
+    go (no k) (yes l) = absurd (let s = proper p l h k in omega arith)
+    go (no k) (no l) = inl (omega arith)
+
+pub low-some : (p : ℕ) → (size 16 p % 0x8000 ≡ 0 → ⊥) → (0 < p) × (p ≡ 0x8000 → ⊥)
+low-some zero some = absurd (some refl)
+low-some (suc p) some = (omega arith, λ e. some (rw e refl))
 
 -- the patterns of 1/2 and of 1, and the numbers on either side of them
 half : magnitude 1 16 0x3000 ≡ 2 ^ 27

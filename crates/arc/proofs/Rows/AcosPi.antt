@@ -1,7 +1,7 @@
 -- What row 10 says, case by case.
 use Prim.Native.Nat.{ℕ, zero, suc, _-_, _*_, _^_, _≤_, _<_}
 use mathlib.Core.Path.{_≡_, refl}
-use mathlib.Core.Bool.{Bool, true, false}
+use mathlib.Core.Bool.{Bool, true, false, Bool·beq, cond}
 use mathlib.Core.Logic.{_⊎_, ⊎-elim}
 use native.Mathlib.Omega.{arith}
 use borrow.Author.Tests.{lt-ltb, le-ltb}
@@ -13,24 +13,51 @@ use Rattle.posit.specs.Rounding.{Rounds, over}
 use Rattle.posit.proofs.Patterns.{number-signed}
 use Rattle.arc.specs.Root.{root}
 use Rattle.rows.specs.Rows.{names, Meets}
+use Rattle.rows.proofs.Sizes.{size-plus, size-minus}
 use Rattle.arc.specs.AcosPi.{poly, arc, otherwise, row}
 
 module _ (p k : ℕ) where
-  pub arc-below-half : p < 0x3000 → arc p k ≡ poly k
+  arc-below-half : p < 0x3000 → arc p k ≡ poly k
   unfolding arc
   arc-below-half h = rw (lt-ltb p 0x3000 h)
 
-  pub arc-from-half : 0x3000 ≤ p → p < 0x4001 → arc p k ≡ 2 ^ 30 - 2 * poly (root ((2 ^ 28 - k) * 2 ^ 27))
+  arc-from-half : 0x3000 ≤ p → p < 0x4001 → arc p k ≡ 2 ^ 30 - 2 * poly (root ((2 ^ 28 - k) * 2 ^ 27))
   unfolding arc
   arc-from-half l h = rw (le-ltb p 0x3000 l, lt-ltb p 0x4001 h)
 
-  pub arc-above-minus-half : 53248 < p → arc p k ≡ 2 ^ 30 - poly k
+  arc-above-minus-half : 53248 < p → arc p k ≡ 2 ^ 30 - poly k
   unfolding arc
   arc-above-minus-half l = rw (le-ltb p 0x3000 (omega arith), le-ltb p 0x4001 (omega arith), lt-ltb 53248 p l)
 
-  pub arc-to-minus-half : 0x4001 ≤ p → p ≤ 53248 → arc p k ≡ 2 * poly (root ((2 ^ 28 - k) * 2 ^ 27))
+  arc-to-minus-half : 0x4001 ≤ p → p ≤ 53248 → arc p k ≡ 2 * poly (root ((2 ^ 28 - k) * 2 ^ 27))
   unfolding arc
   arc-to-minus-half l h = rw (le-ltb p 0x3000 (omega arith), le-ltb p 0x4001 l, le-ltb 53248 p h)
+
+-- the same by whether a root is taken and by the sign: what the polynomial takes, how often the angle has its result, and
+-- whether that is the angle or what the angle leaves of a half-turn
+abbrev pub argument : Bool → ℕ → ℕ
+argument byRoot k = cond byRoot (root ((2 ^ 28 - k) * 2 ^ 27)) k
+
+abbrev pub turned : Bool → ℕ → ℕ
+turned byRoot m = cond byRoot (2 * m) m
+
+abbrev pub orRest : Bool → ℕ → ℕ
+orRest same t = cond same t (2 ^ 30 - t)
+
+pub arc-by-root : (p k s : ℕ) → s ≡ size 16 p → s ≤ 0x4000
+    → arc p k ≡ orRest (Bool·beq (ltb 0x2fff s) (ltb 0x8000 p)) (turned (ltb 0x2fff s) (poly (argument (ltb 0x2fff s) k)))
+arc-by-root p k s e h = go (decLt 0x2fff s) (decLt 0x8000 p)
+  where
+    go : Dec (0x2fff < s) → Dec (0x8000 < p)
+        → arc p k ≡ orRest (Bool·beq (ltb 0x2fff s) (ltb 0x8000 p)) (turned (ltb 0x2fff s) (poly (argument (ltb 0x2fff s) k)))
+    go (yes b) (yes n) = let z = size-minus p n in rw (lt-ltb 0x2fff s b, lt-ltb 0x8000 p n) (arc-to-minus-half p k (omega arith) (omega arith))
+    go (yes b) (no n) =
+        let z = size-plus p (omega arith) in
+        rw (lt-ltb 0x2fff s b, le-ltb 0x8000 p (omega arith)) (arc-from-half p k (omega arith) (omega arith))
+    go (no b) (yes n) = let z = size-minus p n in rw (le-ltb 0x2fff s (omega arith), lt-ltb 0x8000 p n) (arc-above-minus-half p k (omega arith))
+    go (no b) (no n) =
+        let z = size-plus p (omega arith) in
+        rw (le-ltb 0x2fff s (omega arith), le-ltb 0x8000 p (omega arith)) (arc-below-half p k (omega arith))
 
 pub past-one : (p : ℕ) → 0x4000 < p → p < 0xC000 → row p ≡ names 0x8000
 unfolding row

@@ -27,17 +27,22 @@ fn angle(p: u16) -> u64
     requires { ⌜ (165 ≤ p) × (p ≤ 65307) × (0x4000 < p → 0xC000 ≤ p) ⌝ }
     ensures { λ r. ⌜ r ≡ arc p (magnitude 1 16 (size 16 p)) ⌝ }
 {
-    let x = posit::units(posit::signed(0x8000 < p, p));
-    if p < 0x3000 {
-        return acos_poly(x);
+    let negative = 0x8000 < p;
+    let size = posit::signed(negative, p);
+    let x = posit::units(size);
+    let by_root = 0x2fff < size;
+    let f = if by_root {
+        crate::kernel::isqrt((0x1000_0000 - x) << 27)
+    } else {
+        x
+    };
+    let k = acos_poly(f);
+    let turned = if by_root { 2 * k } else { k };
+    if by_root == negative {
+        turned
+    } else {
+        0x4000_0000 - turned
     }
-    if p < 0x4001 {
-        return 0x4000_0000 - 2 * acos_poly(crate::kernel::isqrt((0x1000_0000 - x) << 27));
-    }
-    if 53248 < p {
-        return 0x4000_0000 - acos_poly(x);
-    }
-    2 * acos_poly(crate::kernel::isqrt((0x1000_0000 - x) << 27))
 }
 
 fn acos_poly(f: u64) -> u64

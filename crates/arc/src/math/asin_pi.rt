@@ -11,7 +11,7 @@ pub fn asin_pi(p: u16) -> u16
     if p == 0 {
         return 0;
     }
-    let negative = 0x8000 < p;
+    let negative = 0x7fff < p;
     let size = posit::signed(negative, p);
     if 0x4000 < size {
         return 0x8000; // x is past 1 or -1, or NaR

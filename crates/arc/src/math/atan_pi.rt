@@ -8,14 +8,11 @@ ghost use Rattle.arc.specs.AtanPi.{poly, small, large, quotient, row};
 pub fn atan_pi(p: u16) -> u16
     ensures { λ r. ⌜ Meets (row p) r ⌝ }
 {
-    if p == 0 {
-        return 0;
-    }
-    if p == 0x8000 {
-        return 0x8000;
-    }
-    let negative = 0x8000 < p;
+    let negative = 0x7fff < p;
     let size = posit::signed(negative, p);
+    if size % 0x8000 == 0 {
+        return p; // x is zero, or NaR
+    }
     let k = angle(size) % 0x4000_0000; // the remainder tells the compiler: below 1
     posit::signed(negative, posit::round(k, -30))
 }

@@ -1,9 +1,10 @@
 -- What rows 5 and 7 have in common: 0 for the magnitudes from 31744 up, which are whole numbers, and else the sign of x put
 -- back on the answer to its magnitude.
-use Prim.Native.Nat.{ℕ, _≤_, _<_}
+use Prim.Native.Nat.{ℕ, _+_, _%_, _^_, _≤_, _<_}
 use mathlib.Core.Path.{_≡_}
 use mathlib.Core.Bool.{cond}
 use native.Mathlib.Omega.{arith}
+use native.Mathlib.Decide.{decLt}
 use borrow.Author.Tests.{le-leb, lt-leb}
 use lib.Dec.{ltb}
 use lib.IntN.{ℤ}
@@ -34,6 +35,14 @@ module _ {other : Number → Row} {f : ℕ → Row} (odd : Odd other f) (p : ℕ
     module _ (not-nar : p ≡ 0x8000 → ⊥) where
       pub whole-zero : 31743 < s → Meets (whole-apart other p) 0
       whole-zero k = let z = size-some p h not-nar (λ e. omega arith) in rw (le-leb 31744 (size 16 p) (omega arith), le-leb (size 16 p) 0x7fff (omega arith))
+
+      -- both by one test: d is s less 1, and the largest of 16 bits where s is 0
+      pub whole-or-zero : {d : ℕ} → (d + 1) % 2 ^ 16 ≡ s → d < 2 ^ 16 → 31742 < d → Meets (whole-apart other p) 0
+      whole-or-zero wraps small k = go (decLt 31743 s)
+        where
+          go : Dec (31743 < s) → Meets (whole-apart other p) 0
+          go (yes l) = whole-zero l
+          go (no l) = zero-itself (omega arith)
 
       pub sign-back : s ≤ 31743 → (s ≡ 0 → ⊥) → (x u r : ℕ) → x ≡ magnitude 1 16 s
           → Meets (f x) u → r ≡ cond (ltb 0x8000 p) (opposite 16 u) u → Meets (whole-apart other p) r

@@ -7,10 +7,10 @@ ghost use Rattle.circular.specs.CosPi.{poly, series, unsigned, cosine, r
 pub fn cos_pi(p: u16) -> u16
     ensures { λ r. ⌜ Meets (row p) r ⌝ }
 {
-    if p % 0x8000 == 0 {
+    let size = posit::signed(0x8000 < p, p);
+    if size % 0x8000 == 0 {
         return if p == 0 { 0x4000 } else { 0x8000 };
     }
-    let size = posit::signed(0x8000 < p, p);
     cosine_of(posit::units(size))
 }
 

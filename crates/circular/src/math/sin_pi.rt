@@ -9,11 +9,8 @@ pub fn sin_pi(p: u16) -> u16
 {
     let negative = 0x8000 < p;
     let size = posit::signed(negative, p);
-    if 31743 < size {
-        return if p == 0x8000 { 0x8000 } else { 0 }; // x is a whole number, or NaR
-    }
-    if size == 0 {
-        return 0;
+    if 31742 < std::num::wrapping_sub_u16(size, 1) {
+        return if p == 0x8000 { 0x8000 } else { 0 }; // x is a whole number, zero among them, or NaR
     }
     posit::signed(negative, sine_of(posit::units(size)))
 }

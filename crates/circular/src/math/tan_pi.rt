@@ -1,6 +1,6 @@
 // The tangent of x half-turns, row 7 of document 01.
 ghost use mathlib.Core.Path.{_≡_};
-ghost use Prim.Native.Nat.{_*_, _^_, _<_};
+ghost use Prim.Native.Nat.{_*_, _^_, _≤_, _<_};
 ghost use Rattle.rows.specs.Rows.{Meets};
 ghost use Rattle.circular.specs.TanPi.{poly, denominator, numerator, remainder, row};
 
@@ -10,7 +10,7 @@ pub fn tan_pi(p: u16) -> u16
     if p == 0x8000 {
         return 0x8000;
     }
-    let negative = 0x8000 < p;
+    let negative = 0x7fff < p;
     let size = posit::signed(negative, p);
     if 31743 < size {
         return 0; // x is a whole number
@@ -38,27 +38,28 @@ fn tangent(r: u64) -> u16
     if r == 0x0C00_0000 {
         return 0xC000;
     }
-    if r < 0x0800_0000 {
-        return posit::round(tan_poly(r), -28);
-    }
-    posit::opposite(posit::round(tan_poly(0x1000_0000 - r), -28))
+    let past = r >> 27;
+    let k = tan_poly(crate::quadrant::reflect(past, r % 0x0800_0000));
+    posit::signed(past == 1, posit::round(k % 0x2_0000_0000_0000, -28)) // the remainder tells the compiler: below 2^49
 }
 
 // Safe for arguments above 0 and below 2^27, where the denominator stays above zero.
 fn tan_poly(f: u64) -> u64
     requires { ⌜ (0 < f) × (f < 2 ^ 27) ⌝ }
     ensures { λ r. ⌜ r ≡ poly f ⌝ }
+    ensures { λ r. ⌜ r < 2 ^ 49 ⌝ }
 {
     if f < 0xE001 {
         return (f * 102_943) >> 15;
     }
-    tan_numerator(f >> 9) / tan_denominator(f >> 9)
+    let fs = (f >> 9) % 0x4_0000; // the remainder tells the compiler: of 18 bits
+    tan_numerator(fs) / tan_denominator(fs)
 }
 
 fn tan_denominator(fs: u64) -> u64
     requires { ⌜ fs < 2 ^ 18 ⌝ }
     ensures { λ r. ⌜ r ≡ denominator fs ⌝ }
-    ensures { λ r. ⌜ 0 < r ⌝ }
+    ensures { λ r. ⌜ 2 ^ 7 ≤ r ⌝ }
 {
     let fsq = (fs * fs) >> 10;
     let a = (fsq * 13_335_493) >> 25;
@@ -68,6 +69,7 @@ fn tan_denominator(fs: u64) -> u64
 fn tan_numerator(fs: u64) -> u64
     requires { ⌜ fs < 2 ^ 18 ⌝ }
     ensures { λ r. ⌜ r ≡ numerator fs ⌝ }
+    ensures { λ r. ⌜ r < 2 ^ 56 ⌝ }
 {
     let fsq = (fs * fs) >> 10;
     let a = (fsq * 182_527) >> 27;

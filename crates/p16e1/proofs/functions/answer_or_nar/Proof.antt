@@ -1,34 +1,25 @@
--- Where no function has the number there is no answer; else there is one, and what meets its row is that answer.
-use mathlib.Core.Path.{_≡_, refl, subst}
-use mathlib.Core.Bool.{false}
+-- `p16e1::functions::answer_or_nar` meets its contract: each number's arm meets its row, so that it gives the row's one answer; no other number is known.
 use borrow.Author.Needs.{needs}
-use Rattle.p16e1.specs.Functions.{known, Answers}
-use Rattle.p16e1.proofs.ByNumber.{answer-is}
+use Rattle.p16e1.specs.Functions.{rowOf}
+use Rattle.p16e1.proofs.ByNumber.{answer-is, unknown-none}
 use Rattle.p16e1.proofs.functions.answer_or_nar.Statement.{statement}
 use Rattle.p16e1.proofs.functions.answer_or_nar.Tie as tie
 
-answer-requires : tie.Need-answer-requires
-answer-requires c κs = search needs
-
-enum-known-a : tie.Need-enum-known-a
-enum-known-a c = search needs
-
-enum-told : tie.Need-enum-told
-enum-told c = search needs
-
-returns : tie.Need-returns
-returns c =
-    let d = c .before .before in
-    let h : known (d .before .args .function) ≡ false =
-    subst (Answers (d .before .args .function) (d .before .args .p)) (c .enum-told .given .1) (d .answer .ensures) in
-    rw h refl
-
-returns-2 : tie.Need-returns-2
-returns-2 c =
-    let d = c .before .before .before in
-    let g = d .before .args in
-    let h = subst (Answers (g .function) (g .p)) (c .before .a .given .1) (d .answer .ensures) in
-    rw (h .0) (answer-is (g .function) (g .p) _ (h .1))
-
 pub answer-or-nar-spec : {M : Type 1} → statement M
-answer-or-nar-spec = tie.close (tie.spec answer-requires enum-known-a enum-told returns returns-2)
+unfolding rowOf
+answer-or-nar-spec =
+    tie.close
+    (tie.spec
+    (λ c κs. search needs) (λ c κs. search needs) (λ c κs. search needs) (λ c κs. search needs) (λ c κs. search needs)
+    (λ c κs. search needs) (λ c κs. search needs) (λ c κs. search needs) (λ c κs. search needs) (λ c κs. search needs)
+    (λ c. rw (c .before .match .keys1) (answer-is 1 (c .before .before .args .p) _ (c .exp .ensures)))
+    (λ c. rw (c .before .match .keys2) (answer-is 2 (c .before .before .args .p) _ (c .exp2 .ensures)))
+    (λ c. rw (c .before .match .keys3) (answer-is 3 (c .before .before .args .p) _ (c .ln .ensures)))
+    (λ c. rw (c .before .match .keys4) (answer-is 4 (c .before .before .args .p) _ (c .log2 .ensures)))
+    (λ c. rw (c .before .match .keys5) (answer-is 5 (c .before .before .args .p) _ (c .sin-pi .ensures)))
+    (λ c. rw (c .before .match .keys6) (answer-is 6 (c .before .before .args .p) _ (c .cos-pi .ensures)))
+    (λ c. rw (c .before .match .keys7) (answer-is 7 (c .before .before .args .p) _ (c .tan-pi .ensures)))
+    (λ c. rw (c .before .match .keys8) (answer-is 8 (c .before .before .args .p) _ (c .atan-pi .ensures)))
+    (λ c. rw (c .before .match .keys9) (answer-is 9 (c .before .before .args .p) _ (c .asin-pi .ensures)))
+    (λ c. rw (c .before .match .keys10) (answer-is 10 (c .before .before .args .p) _ (c .acos-pi .ensures)))
+    (λ c. rw (unknown-none (c .before .args .function) (c .match .rest))))

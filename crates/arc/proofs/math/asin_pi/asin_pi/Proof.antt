@@ -7,7 +7,7 @@ use native.Mathlib.Omega.{arith}
 use native.Mathlib.Nat.{mod-eq-of-lt}
 use Rattle.posit.specs.Number.{magnitude, size}
 use Rattle.arc.specs.AsinPi.{arc}
-use Rattle.rows.proofs.Sizes.{proper}
+use Rattle.rows.proofs.Sizes.{proper, sign-by-bit, size-by-bit}
 use Rattle.arc.proofs.Rows.AsinPi.{zero-itself, past-one, not-nar, by-arc}
 use Rattle.arc.proofs.math.asin_pi.asin_pi.Statement.{statement}
 use Rattle.arc.proofs.math.asin_pi.asin_pi.Tie as tie
@@ -18,14 +18,17 @@ returns c = rw (c .if1 .taken) zero-itself
 signed-requires : tie.Need-signed-requires
 signed-requires c κs = search needs
 
+size-is : (s : tie.After-signed) → s .signed .result ≡ size 16 (s .before .before .args .p)
+size-is s = s .signed .ensures ∙ size-by-bit (s .before .before .args .p)
+
 returns-2 : tie.Need-returns-2
-returns-2 c = rw (past-one (c .before .before .before .args .p) (rw (c .before .signed .ensures) at (c .if2 .taken)))
+returns-2 c = rw (past-one (c .before .before .before .args .p) (rw (size-is (c .before)) at (c .if2 .taken)))
 
 angle-requires : tie.Need-angle-requires
 angle-requires c κs =
     let p = c .before .before .before .args .p in
-    let s : size 16 p ≤ 0x4000 = rw (c .before .signed .ensures) at (c .if2 .left) in
-    rw (c .before .signed .ensures) (proper p (omega arith) (omega arith) (not-nar p s) .0, s)
+    let s : size 16 p ≤ 0x4000 = rw (size-is (c .before)) at (c .if2 .left) in
+    rw (size-is (c .before)) (proper p (omega arith) (omega arith) (not-nar p s) .0, s)
 
 round-requires : tie.Need-round-requires
 round-requires c κs = search needs
@@ -35,13 +38,15 @@ signed-requires-2 c κs = search needs
 
 returns-3 : tie.Need-returns-3
 returns-3 c =
-    let p = c .before .before .before .before .before .before .args .p in
+    let s = c .before .before .before .before in
+    let p = s .before .before .args .p in
+    let u = c .before .round .result in
+    let l : size 16 p ≤ 0x4000 = rw (size-is s) at (c .before .before .before .if2 .left) in
     let e : c .before .before .angle .result % 2 ^ 30 ≡ arc (size 16 p) (magnitude 1 16 (size 16 p)) =
     mod-eq-of-lt (let l = c .before .before .angle .ensures .1 in omega arith) ∙ c .before .before .angle .ensures .0
-    ∙ ap (λ (u : ℕ). arc u (magnitude 1 16 u)) (c .before .before .before .before .signed .ensures) in
-    rw (c .signed2 .ensures)
-    (by-arc p (c .before .round .result) (omega arith) (omega arith)
-    (rw (c .before .before .before .before .signed .ensures) at (c .before .before .before .if2 .left)) (rw e at (c .before .round .ensures)))
+    ∙ ap (λ (u : ℕ). arc u (magnitude 1 16 u)) (size-is s) in
+    rw (c .signed2 .ensures, sign-by-bit p u (not-nar p l))
+    (by-arc p u (omega arith) (omega arith) l (rw e at (c .before .round .ensures)))
 
 pub asin-pi-spec : {M : Type 1} → statement M
 asin-pi-spec = tie.close (tie.spec returns signed-requires returns-2 angle-requires round-requires signed-requires-2 returns-3)

@@ -1,28 +1,36 @@
 -- `arc::math::atan_pi` meets its contract: 0 and NaR are themselves, and else the angle of the magnitude is rounded.
 use borrow.Author.Needs.{needs}
-use Prim.Native.Nat.{ℕ, _%_, _^_}
+use Prim.Native.Nat.{ℕ, _%_, _^_, _<_}
 use mathlib.Core.Path.{_≡_, _∙_, ap}
+use mathlib.Core.Logic.{⊎-elim}
 use native.Mathlib.Omega.{arith}
 use native.Mathlib.Nat.{mod-eq-of-lt}
 use Rattle.posit.specs.Number.{magnitude, size}
 use Rattle.arc.specs.AtanPi.{quotient}
-use Rattle.rows.proofs.Sizes.{proper}
+use Rattle.rows.proofs.Sizes.{sign-by-bit, size-by-bit, proper, low-zero, low-some}
 use Rattle.arc.proofs.Rows.AtanPi.{zero-itself, nar-itself, by-quotient}
 use Rattle.arc.proofs.math.atan_pi.atan_pi.Statement.{statement}
 use Rattle.arc.proofs.math.atan_pi.atan_pi.Tie as tie
 
-returns : tie.Need-returns
-returns c = rw (c .if1 .taken) zero-itself
-
-returns-2 : tie.Need-returns-2
-returns-2 c = rw (c .if2 .taken, nar-itself)
-
 signed-requires : tie.Need-signed-requires
 signed-requires c κs = search needs
 
+size-is : (s : tie.After-signed) → s .signed .result ≡ size 16 (s .before .args .p)
+size-is s = s .signed .ensures ∙ size-by-bit (s .before .args .p)
+
+returns : tie.Need-returns
+returns c =
+    let p = c .before .before .args .p in
+    ⊎-elim (λ (e : p ≡ 0). rw e zero-itself) (λ (e : p ≡ 0x8000). rw (e, nar-itself))
+    (low-zero p (omega arith) (rw (size-is (c .before)) at (c .if1 .taken)))
+
+some : (c : tie.Else1) → (0 < c .before .before .args .p) × (c .before .before .args .p ≡ 0x8000 → ⊥)
+some c = low-some (c .before .before .args .p) (rw (size-is (c .before)) at (c .if1 .left))
+
 angle-requires : tie.Need-angle-requires
 angle-requires c κs =
-    rw (c .signed .ensures) (let s = proper (c .before .before .before .args .p) (omega arith) (omega arith) (omega arith) in (omega arith, omega arith))
+    let k = some c in
+    rw (size-is (c .before)) (let s = proper (c .before .before .args .p) (k .0) (omega arith) (k .1) in (omega arith, omega arith))
 
 round-requires : tie.Need-round-requires
 round-requires c κs = search needs
@@ -30,13 +38,17 @@ round-requires c κs = search needs
 signed-requires-2 : tie.Need-signed-requires-2
 signed-requires-2 c κs = search needs
 
-returns-3 : tie.Need-returns-3
-returns-3 c =
-    let p = c .before .before .before .before .before .before .args .p in
-    let e : c .before .before .angle .result % 2 ^ 30 ≡ quotient (size 16 p) (magnitude 1 16 (size 16 p)) =
-    mod-eq-of-lt (let l = c .before .before .angle .ensures .1 in omega arith) ∙ c .before .before .angle .ensures .0
-    ∙ ap (λ (u : ℕ). quotient u (magnitude 1 16 u)) (c .before .before .before .signed .ensures) in
-    rw (c .signed2 .ensures) (by-quotient p (c .before .round .result) (omega arith) (omega arith) (omega arith) (rw e at (c .before .round .ensures)))
+returns-2 : tie.Need-returns-2
+returns-2 c =
+    let a = c .before .before in
+    let s = a .before .before in
+    let p = s .before .args .p in
+    let u = c .before .round .result in
+    let k = some (a .before) in
+    let e : a .angle .result % 2 ^ 30 ≡ quotient (size 16 p) (magnitude 1 16 (size 16 p)) =
+    mod-eq-of-lt (let l = a .angle .ensures .1 in omega arith) ∙ a .angle .ensures .0 ∙ ap (λ (u : ℕ). quotient u (magnitude 1 16 u)) (size-is s) in
+    rw (c .signed2 .ensures, sign-by-bit p u (k .1))
+    (by-quotient p u (k .0) (omega arith) (k .1) (rw e at (c .before .round .ensures)))
 
 pub atan-pi-spec : {M : Type 1} → statement M
-atan-pi-spec = tie.close (tie.spec returns returns-2 signed-requires angle-requires round-requires signed-requires-2 returns-3)
+atan-pi-spec = tie.close (tie.spec signed-requires returns angle-requires round-requires signed-requires-2 returns-2)

@@ -1,5 +1,5 @@
--- `circular::math::tan_pi::tan_denominator` meets its contract: each product fits, and the last stays below 2 ^ 54. It comes
--- near to that, so its bound is taken at the far end.
+-- `circular::math::tan_pi::tan_denominator` meets its contract: each product fits, and the last stays 2 ^ 34 below 2 ^ 54.
+-- It comes near to that, so its bound is taken at the far end, the square of 2 ^ 18 - 1.
 use Prim.Native.Nat.{ℕ, _+_, _-_, _*_, _/_, _^_, _≤_, _<_}
 use mathlib.Core.Path.{refl}
 use native.Mathlib.Omega.{arith}
@@ -13,14 +13,17 @@ use Rattle.circular.proofs.math.tan_pi.tan_denominator.Tie as tie
 abbrev square : ℕ → ℕ
 square fs = fs * fs / 2 ^ 10
 
+abbrev far : ℕ
+far = square (2 ^ 18 - 1)
+
 record Products (fs : ℕ) : Type 0 where
-  squared : fs * fs ≤ 2 ^ 36
-  result : 2 ^ 25 * (square fs * (295106440 - square fs * 13335493 / 2 ^ 25)) ≤ 2 ^ 26 * (2 ^ 25 * 295106440 + 2 ^ 25 - 2 ^ 26 * 13335493)
+  squared : fs * fs ≤ (2 ^ 18 - 1) * (2 ^ 18 - 1)
+  result : 2 ^ 25 * (square fs * (295106440 - square fs * 13335493 / 2 ^ 25)) ≤ far * (2 ^ 25 * 295106440 + 2 ^ 25 - far * 13335493)
 
 products : (fs : ℕ) → fs < 2 ^ 18 → Products fs
 products fs h =
-    let squared : fs * fs ≤ 2 ^ 36 = product (2 ^ 18) (2 ^ 18) (omega arith) (omega arith) in
-    record { squared = squared; result = at-end 295106440 13335493 (2 ^ 25) (2 ^ 26) (lit< tt) (omega arith) (lit≤ tt) (lit≤ tt) }
+    let squared : fs * fs ≤ (2 ^ 18 - 1) * (2 ^ 18 - 1) = product (2 ^ 18 - 1) (2 ^ 18 - 1) (omega arith) (omega arith) in
+    record { squared = squared; result = at-end 295106440 13335493 (2 ^ 25) far (lit< tt) (omega arith) (lit≤ tt) (lit≤ tt) }
 
 mul-fsq : tie.Need-mul-fsq
 mul-fsq c = fits-of-lt (let k = products (c .args .fs) (c .pre) in omega arith)

@@ -38,7 +38,7 @@ mul-result c = fits-of-lt (let k = bounds (c .pre) in omega arith)
 
 returns : tie.Need-returns
 unfolding numerator
-returns c = let k = bounds (c .pre) in shl-exact 45 11 64 (omega arith) (lit≤ tt)
+returns c = let k = bounds (c .pre) in (shl-exact 45 11 64 (omega arith) (lit≤ tt), omega arith)
 
 pub tan-numerator-spec : {M : Type 1} → statement M
 tan-numerator-spec = tie.close (tie.spec mul-fsq mul-a sub-b mul-b sub-result mul-result returns)
