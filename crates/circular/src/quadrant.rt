@@ -1,4 +1,4 @@
-// The quadrant of an angle and the rest of it, which sin_pi and cos_pi share.
+// The quadrant of an angle and the rest of it, which sin_pi and cos_pi share; tan_pi reflects by it too.
 ghost use mathlib.Core.Path.{_≡_};
 ghost use Prim.Native.Nat.{_^_, _<_};
 ghost use Rattle.circular.specs.Quadrants.{quadrant, rest, reflected};

@@ -22,7 +22,7 @@ pub size-minus : (p : ℕ) → 0x8000 < p → size 16 p ≡ 0x10000 - p
 size-minus p h = rw (lt-ltb 0x8000 p h) (opposite-is 16 p (omega arith))
 
 -- the sign bit tells the sign of every number, and the magnitude of NaR too, which is its own opposite
-sign-bit : (p : ℕ) → (p ≡ 0x8000 → ⊥) → ltb 0x7fff p ≡ ltb 0x8000 p
+pub sign-bit : (p : ℕ) → (p ≡ 0x8000 → ⊥) → ltb 0x7fff p ≡ ltb 0x8000 p
 sign-bit p real = go (decLt 0x8000 p)
   where
     go : Dec (0x8000 < p) → ltb 0x7fff p ≡ ltb 0x8000 p

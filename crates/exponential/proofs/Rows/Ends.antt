@@ -2,7 +2,7 @@
 use Prim.Native.Nat.{ℕ, suc, _+_, _-_, _*_, _/_, _%_, _^_, _≤_, _<_}
 use mathlib.Core.Path.{_≡_, _∙_, ap, sym, subst}
 use mathlib.Core.Logic.{_⊎_, ⊎-elim}
-use mathlib.Core.Bool.{Bool, cond}
+use mathlib.Core.Bool.{cond}
 use native.Mathlib.Omega.{arith}
 use native.Mathlib.Decide.{decLt}
 use native.Mathlib.Nat.{mod-eq-of-lt}
@@ -20,7 +20,7 @@ use Rattle.posit.proofs.Patterns.{number-nar, number-signed}
 use Rattle.rows.specs.Floor.{floor, modulo}
 use Rattle.rows.specs.Rows.{names, rounds, Meets}
 use Rattle.exponential.specs.Ends.{ends, beyond, otherwise}
-use Rattle.rows.proofs.Sizes.{no-farther}
+use Rattle.rows.proofs.Sizes.{no-farther, sign-bit, size-by-bit}
 use Rattle.rows.proofs.Whole.{Floors, floors, moved-back}
 
 -- the four numbers stand in order around NaR, with c and d as far from zero as each other
@@ -41,16 +41,11 @@ pub record Between (a b c d p s x : ℕ) : Type 0 where
   pub units : x ≡ magnitude 1 16 s
 
 module _ {a b c d : ℕ} (o : Ordered a b c d) {p s x : ℕ} (w : Between a b c d p s x) where
-  -- it is not NaR, so the sign bit tells its sign
-  sign-bit : ltb 0x7fff p ≡ ltb 0x8000 p
-  sign-bit = go (decLt p c)
-    where
-      go : Dec (p < c) → ltb 0x7fff p ≡ ltb 0x8000 p
-      go (yes h) = le-ltb 0x7fff p (omega arith) ∙ sym (le-ltb 0x8000 p (omega arith))
-      go (no h) = let k = w .out (omega arith) in lt-ltb 0x7fff p (omega arith) ∙ sym (lt-ltb 0x8000 p (omega arith))
+  not-nar : p ≡ 0x8000 → ⊥
+  not-nar e = let k = w .out (omega arith) in omega arith
 
   size-is : x ≡ magnitude 1 16 (size 16 p)
-  size-is = w .units ∙ ap (magnitude 1 16) (w .signed ∙ ap (λ (z : Bool). cond z (opposite 16 p) p) sign-bit)
+  size-is = w .units ∙ ap (magnitude 1 16) (w .signed ∙ size-by-bit p)
 
   pub nearest : x ≤ magnitude 1 16 (c - 1)
   nearest = no-farther p (c - 1) x (omega arith) (omega arith) (omega arith) (λ h. let k = w .out (omega arith) in omega arith) size-is
@@ -119,7 +114,7 @@ module _ {a b c d : ℕ} (o : Ordered a b c d) (kernel : ℤ → Known) where
       → Rounds 1 16 (dyadic (pos (K + f)) (toZ w32 (ofZ w32 e))) r → Meets (ends a b c d kernel p) r
   kernel-meets {p = p} K k r w is u few v fits m =
       let power = toZ-ofZ {w = w32} (record { sfits = fits }) ∙ v ∙ ap (λ (y : ℕ). pos y -ℤ pos k) (mod-eq-of-lt few) in
-      rw (by-kernel p (w .least) (w .most) (w .out), sym (λ i. kernel (withSign (sign-bit o w i) (size-is o w i))) ∙ is)
+      rw (by-kernel p (w .least) (w .most) (w .out), sym (λ i. kernel (withSign (sign-bit p (not-nar o w) i) (size-is o w i))) ∙ is)
       (subst (λ (y : Known). Rounds 1 16 y r) (λ i. dyadic (pos (K + u i)) (power i)) m)
 
 -- the ends c and d are as far from zero on both sides, so one test of the size s finds what lies past them

@@ -1,4 +1,5 @@
--- `p16e1::functions::answer` meets its contract: a known function's pattern is its row's computed answer, which meets the row; a number that is not known has none.
+-- `p16e1::functions::answer` meets its contract: a known function's pattern is its row's computed answer, which meets the row; a
+-- number that is not known has none.
 use mathlib.Core.Path.{_≡_}
 use mathlib.Core.Bool.{true}
 use borrow.Author.Needs.{needs}
