@@ -31,7 +31,7 @@ pub fn fill(function: u16, input: &[u16], output: &mut [u16], start: usize, n: u
         8 => fill_by(8, input, output, start, n),
         9 => fill_by(9, input, output, start, n),
         10 => fill_by(10, input, output, start, n),
-        _ => 0,
+        _ => 0, // no other number is known
     }
 }
 

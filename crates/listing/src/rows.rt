@@ -72,7 +72,7 @@ fn write_row(
         8 => write_row_by(8, input, from, patterns, output, to),
         9 => write_row_by(9, input, from, patterns, output, to),
         10 => write_row_by(10, input, from, patterns, output, to),
-        _ => {}
+        _ => {} // no other number is known
     }
 }
 

@@ -23,9 +23,9 @@ struct Fields {
 }
 
 // How long a pattern's run is: how many of its bits after the sign, from the first of them on, equal that one. It ends because
-// there is no loop. w has these bits at its top and nothing else; where it starts with a one it is turned over, bit for bit, so
-// that either run is one of zeros. The first bit is counted by itself, and those after it by one instruction, which counts zeros
-// up to the first one; the one that is put in behind the last bit is there in any case.
+// there is no loop: the processor counts leading zeros in one step. w has those bits at its top and only zeros below. Where it
+// starts with a 1 every bit is turned over, so that the run is one of zeros in either case. The first bit of the run is counted
+// by itself, the 1 in front; twice the word has lost it, and has a 1 at its end, where the count stops at the latest.
 fn run_length(w: u64) -> u32
     requires { ⌜ (2 ^ 49 ≤ w) × (w % 2 ^ 49 ≡ 0) ⌝ }
     ensures { λ m. ⌜ m ≡ run (bit 63 w) 15 (w / 2 ^ 49) ⌝ }

@@ -22,7 +22,8 @@ pub fn acos_pi(p: u16) -> u16
     posit::round(angle(p), -30)
 }
 
-// The angle in units of 2^-30; from 1/2 on, and from -1/2 down, by way of the square root of 1 - |x|.
+// The angle in units of 2^-30; from 1/2 on, and from -1/2 down, by way of the square root of 1 - |x|. What the polynomial gives
+// is the angle itself where x is below zero and a root was taken, or neither; otherwise it is what is left of a half-turn.
 fn angle(p: u16) -> u64
     requires { ⌜ (165 ≤ p) × (p ≤ 65307) × (0x4000 < p → 0xC000 ≤ p) ⌝ }
     ensures { λ r. ⌜ r ≡ arc p (magnitude 1 16 (size 16 p)) ⌝ }
