@@ -75,9 +75,17 @@ module _ (a b : ℕ) where
   minus p (below h) t = h
   minus p (above h) t = absurd (let k = ltb-true (a - b) 0 t in omega arith)
 
-  pub plus : (p : ℤ) → Apart a b p → ltZ p (pos 0) ≡ false → b ≤ a
-  plus p (below h) t = absurd (subst T t tt)
-  plus p (above h) t = h
+  pub from-zero : (p : ℤ) → Apart a b p → ltZ p (pos 0) ≡ false → b ≤ a
+  from-zero p (below h) t = absurd (subst T t tt)
+  from-zero p (above h) t = h
+
+  pub to-29 : (p : ℤ) → Apart a b p → ltZ p (pos 29) ≡ true → a < b + 29
+  to-29 p (below h) t = omega arith
+  to-29 p (above h) t = let k = ltb-true (a - b) 29 t in omega arith
+
+  pub from-29 : (p : ℤ) → Apart a b p → ltZ p (pos 29) ≡ false → b + 29 ≤ a
+  from-29 p (below h) t = absurd (subst T t tt)
+  from-29 p (above h) t = let k = ltb-false (a - b) 29 t in omega arith
 
   pub power-few : (p : ℤ) → Apart a b p → b < a + 29 → a < b + 28 → mag p ≤ 27
   power-few p (below h) l g = omega arith

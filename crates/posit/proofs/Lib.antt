@@ -9,6 +9,7 @@ pub mod Exists
 pub mod Widths
 pub mod Patterns
 pub mod Laws
+pub mod Sides
 pub mod Own
 pub mod Dyadic
 pub mod Fields

@@ -1,15 +1,23 @@
 -- f / 2 ^ 63 * 2 ^ s with one exponent bit: x is the exponent bit and then the fraction. Cutting x to the t bits that come
 -- after the regime gives the pattern of 17 bits, and from it the answer; the code keeps 48 bits more, and drops the rest.
-use Prim.Native.Nat.{ℕ, suc, _+_, _-_, _*_, _/_, _%_, _^_, _≤_, _<_}
+use Prim.Native.Nat.{ℕ, suc, _+_, _-_, _*_, _/_, _%_, _^_, _≤_, _<_, Ordering, Ordering·lt, Ordering·eq, Ordering·gt}
 use mathlib.Core.Path.{_≡_, refl, _∙_, subst, subst⁻¹, sym, ap}
 use mathlib.Core.Logic.{⊎-elim}
+use mathlib.Core.Bool.{cond, _||_}
 use native.Mathlib.Omega.{arith}
+use native.Mathlib.Decide.{decLt}
+use borrow.Author.Tests.{lt-ltb, le-ltb}
+use lib.Dec.{ltb}
 use native.Mathlib.Nat.{mod-lt, mul-assoc, mul-mod-left, zero-mul, zero-mod, le-mul-of-pos-right, eq-zero-or-pos}
 use lib.Pow.{pow-pos, pow-add, shr-lt, shr-shr, split, mod-pow-add, mod-mod-pow}
 use Rattle.posit.specs.Rounding.{ratio, Rounded}
+use Rattle.posit.specs.Sides.{stands, lies}
+use Rattle.posit.specs.declared.side.Side.{Side}
+use Rattle.posit.specs.declared.side.Side.the-variants.{Below, On, Above}
+use Rattle.posit.proofs.Value.{floated}
 use Rattle.posit.proofs.Shapes.{index}
 use Rattle.posit.proofs.Regimes.{Layout}
-use Rattle.posit.proofs.Between.{floated-is, pattern-most, answer}
+use Rattle.posit.proofs.Between.{floated-is, pattern-most, answer, stands-above, stands-below, stands-on}
 
 -- u, the half of v or the one above it, is even where v lies between: a is v's half, and m its last bit
 module _ (v a m u : ℕ) (half : a ≡ v / 2) (last : m ≡ a % 2) (picked : u ≡ (v + m) / 2) where
@@ -157,3 +165,54 @@ module _ (f s t b : ℕ) (top : 2 ^ 63 ≤ f) (fits : f < 2 ^ 64) (l : Layout (s
             let h = mod-lt word (pow-pos 48) in
             subst⁻¹ (Rounded 1 16 (ratio (f * 2 ^ s) (2 ^ 93))) (carried v cut (v / 2 % 2) h (omega arith) (omega arith))
             (off (λ z. let e = rest-is in let g = le-mul-of-pos-right cut (pow-pos (2 + k)) in omega arith))
+
+    -- and where a posit u lies, by its pattern as wide
+    module _ (u : ℕ) (lo : 1 ≤ u) (hi : u ≤ 0x7fff) where
+      abbrev standing : Ordering
+      standing = stands 1 16 (ratio (f * 2 ^ s) (2 ^ 93)) u
+
+      is-number : stands 1 16 (ratio (floated 63 Z) (2 ^ 93)) u ≡ standing
+      is-number = ap (λ (y : ℕ). stands 1 16 (ratio y (2 ^ 93)) u) (floated-is f s top fits)
+
+      above : wide < u * 2 ^ 49 → standing ≡ Ordering·gt
+      above h = sym is-number ∙ stands-above 1 (s / 2) t b q rest Z l fits-tail whole small u lo hi (let e = pattern-above in omega arith)
+
+      below : u * 2 ^ 49 ≤ wide → (u * 2 ^ 49 ≡ wide → 0 < f % 2 ^ 15) → standing ≡ Ordering·lt
+      below h some =
+          let e = pattern-above in
+          let c = mod-lt word (pow-pos 48) in
+          sym is-number ∙ stands-below 1 (s / 2) t b q rest Z l fits-tail whole small u lo hi (omega arith)
+          (λ g. ⊎-elim (λ z. absurd (let k = some (omega (arith, rests z)) in let m = kept z in omega arith)) (λ k. k) (eq-zero-or-pos rest))
+        where
+          rests : rest ≡ 0 → cut ≡ 0
+          rests z = ⊎-elim (λ e. e) (λ p. absurd (let e = rest-is in let g = le-mul-of-pos-right cut (pow-pos (2 + k)) in omega arith)) (eq-zero-or-pos cut)
+
+      level : u * 2 ^ 49 ≡ wide → f % 2 ^ 15 ≡ 0 → standing ≡ Ordering·eq
+      level h none =
+          let e = pattern-above in
+          let c = mod-lt word (pow-pos 48) in
+          sym is-number ∙ stands-on 1 (s / 2) t b q rest Z l fits-tail whole small u lo hi (omega arith)
+          (let g = rest-is in let d = dropped none in
+          let z : cut * 2 ^ (2 + k) ≡ 0 = ap (λ (y : ℕ). y * 2 ^ (2 + k)) (let z : cut ≡ 0 = omega arith in z) ∙ zero-mul (2 ^ (2 + k)) in omega arith)
+
+      pub side-is : lies standing ≡ cond (ltb wide (u * 2 ^ 49)) Above (cond (ltb (u * 2 ^ 49) wide || ltb 0 (f % 2 ^ 15)) Below On)
+      side-is = go (decLt wide (u * 2 ^ 49)) (decLt (u * 2 ^ 49) wide) (decLt 0 (f % 2 ^ 15))
+        where
+          go : Dec (wide < u * 2 ^ 49) → Dec (u * 2 ^ 49 < wide) → Dec (0 < f % 2 ^ 15)
+              → lies standing ≡ cond (ltb wide (u * 2 ^ 49)) Above (cond (ltb (u * 2 ^ 49) wide || ltb 0 (f % 2 ^ 15)) Below On)
+          go (yes h) y z = rw (lt-ltb wide (u * 2 ^ 49) h, above h)
+          go (no h) (yes y) z = rw (le-ltb wide (u * 2 ^ 49) (omega arith), lt-ltb (u * 2 ^ 49) wide y, below (omega arith) (λ e. absurd (omega arith)))
+          go (no h) (no y) (yes z) =
+              rw (
+                le-ltb wide (u * 2 ^ 49) (omega arith),
+                le-ltb (u * 2 ^ 49) wide (omega arith),
+                lt-ltb 0 (f % 2 ^ 15) z,
+                below (omega arith) (λ e. z),
+              )
+          go (no h) (no y) (no z) =
+              rw (
+                le-ltb wide (u * 2 ^ 49) (omega arith),
+                le-ltb (u * 2 ^ 49) wide (omega arith),
+                le-ltb 0 (f % 2 ^ 15) (omega arith),
+                level (omega arith) (omega arith),
+              )

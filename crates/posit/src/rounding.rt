@@ -1,6 +1,6 @@
 // The rounding rule. Every answer that is no plain pattern is rounded here.
 ghost use mathlib.Core.Path.{_≡_};
-ghost use mathlib.Core.Bool.{cond};
+ghost use mathlib.Core.Bool.{cond, _||_};
 ghost use Prim.Native.Nat.{_+_, _-_, _*_, _/_, _%_, _^_, _≤_, _<_};
 ghost use lib.Dec.{ltb};
 ghost use lib.IntN.{pos, natAbs, _+ℤ_};
@@ -8,7 +8,11 @@ ghost use lib.Signed.{mag, ltZ};
 ghost use lib.Ieee.{up, down};
 ghost use mir.Syntax.{w64};
 ghost use mir.Val.{ofZ};
-ghost use Rattle.posit.specs.Rounding.{ratio, dyadic, Rounded, Rounds};
+ghost use Rattle.posit.specs.Rounding.{ratio, dyadic, plus, Rounds};
+ghost use Rattle.posit.specs.Sides.{RoundsSided};
+ghost use Rattle.posit.specs.declared.side.Side.the-variants.{Below, On, Above};
+use crate::side::Side;
+use crate::side::Sided;
 
 // How many bits of the regime's run follow its first, for a number whose power of two is p.
 fn run_after(p: i32) -> u32
@@ -52,16 +56,32 @@ fn laid_out(p: i32, k: u32, x: u64) -> u64
 // of which some are dropped here. x is the exponent bit and then the fraction; v is the number as a pattern whose last 49
 // bits the answer has not. What is added to v carries into the answer above the dividing number, and on it where the answer
 // would be odd.
-fn place(f: u64, p: i32, rest: bool) -> u16
+fn place(f: u64, p: i32, rest: bool) -> Sided
     requires { ⌜ (2 ^ 63 ≤ f) × (mag p ≤ 27) × (rest ≡ ltb 0 (f % 2 ^ 15)) ⌝ }
-    ensures { λ u. ⌜ Rounded 1 16 (ratio (f * 2 ^ natAbs (p +ℤ pos 30)) (2 ^ 93)) u ⌝ }
+    ensures { λ a. ⌜ RoundsSided 1 16 (plus (ratio (f * 2 ^ natAbs (p +ℤ pos 30)) (2 ^ 93))) a ⌝ }
 {
     let k = run_after(p);
     let x = (f - 0x8000_0000_0000_0000) / 4
         + (((p + 30) as u32 % 2) as u64) * 0x2000_0000_0000_0000;
     let v = laid_out(p, k, x);
     let more = if rest { 1 } else { (v >> 49) % 2 };
-    ((v + 0xFFFF_FFFF_FFFF + more) >> 49) as u16
+    let u = (v + 0xFFFF_FFFF_FFFF + more) >> 49;
+    let side = side_of(u << 49, v, rest);
+    let pattern = u as u16;
+    Sided { pattern, side }
+}
+
+// Where an answer lies, by its pattern and the number's, both of 64 bits; rest tells whether the number is more than its pattern.
+fn side_of(answer: u64, v: u64, rest: bool) -> Side
+    ensures { λ s. ⌜ s ≡ cond (ltb v answer) Above (cond (ltb answer v || rest) Below On) ⌝ }
+{
+    if v < answer {
+        return Side::Above;
+    }
+    if answer < v {
+        return Side::Below;
+    }
+    if rest { Side::Below } else { Side::On }
 }
 
 // Whether anything stands in the lowest 15 bits of f, which is m shifted up: not where m has at most 49 bits, as the compiler
@@ -92,20 +112,44 @@ fn offset(e: i32) -> u32
     (e + 200) as u32
 }
 
-// The posit that the rounding rule gives for m * 2^e. p is the number's power of two, or past -29 and 28 on the same side.
-pub fn round(m: u64, e: i32) -> u16
-    ensures { λ u. ⌜ Rounds 1 16 (dyadic (pos m) e) u ⌝ }
+// The posit that the rounding rule gives for m * 2^e, and where it lies. p is the number's power of two, or past -29 and 28 on
+// the same side. A number below the smallest posit is answered by it, and one from the largest up by that, which 2^28 alone lies
+// on.
+pub fn round_sided(m: u64, e: i32) -> Sided
+    ensures { λ a. ⌜ RoundsSided 1 16 (dyadic (pos m) e) a ⌝ }
 {
     if m == 0 {
-        return 0;
+        return crate::side::outright(0);
     }
     let z = u64::leading_zeros(m);
     let p = offset(e) as i32 - 137 - z as i32;
+    let f = m << z;
     if -29 < p {
         if p < 28 {
-            let f = m << z;
             return place(f, p, below(m, f));
         }
     }
-    if p < 0 { 1 } else { 0x7fff }
+    if p < 0 {
+        return Sided {
+            pattern: 1,
+            side: Side::Above,
+        };
+    }
+    if p < 29 {
+        if f == 0x8000_0000_0000_0000 {
+            return crate::side::outright(0x7fff);
+        }
+    }
+    Sided {
+        pattern: 0x7fff,
+        side: Side::Below,
+    }
+}
+
+// The posit alone.
+pub fn round(m: u64, e: i32) -> u16
+    ensures { λ u. ⌜ Rounds 1 16 (dyadic (pos m) e) u ⌝ }
+{
+    let a = round_sided(m, e);
+    a.pattern
 }

@@ -26,8 +26,8 @@ module _ (c : tie.Joined1) where
   z = c .if1 .zeros
 
   -- what is counted, by the bit that runs
-  counted : ((w < 2 ^ 63) × (z ≡ q * 2 ^ 49)) ⊎ ((2 ^ 63 ≤ w) × (z + q * 2 ^ 49 + 1 ≡ 2 ^ 64))
-  counted = ⊎-elim (λ d. inl (omega arith, omega arith)) (λ d. inr (omega arith, omega arith)) (c .if1 .came)
+  counted : ((w < 2 ^ 63) × (z ≡ q * 2 ^ 49)) ⊎ ((2 ^ 63 ≤ w) × (z + q * 2 ^ 49 < 2 ^ 64) × (2 ^ 64 ≤ z + q * 2 ^ 49 + 2 ^ 48))
+  counted = ⊎-elim (λ d. inl (omega arith, omega arith)) (λ d. inr (omega arith, omega arith, omega arith)) (c .if1 .came)
 
   small : z < 2 ^ 63
   small = ⊎-elim (λ d. omega arith) (λ d. omega arith) counted

@@ -1,20 +1,24 @@
 -- `posit::rounding::place` meets its contract: nothing wraps, and what is added is that of `Words`, by what stands in the
--- lowest 15 bits.
+-- lowest 15 bits; so is the side, by the wide pattern and the answer.
 use borrow.Author.Needs.{needs}
 use borrow.Author.Tests.{le-ltb, ltb-true, ltb-false}
 use Prim.Native.Nat.{ℕ, suc, _+_, _-_, _*_, _/_, _%_, _^_, _≤_, _<_}
 use mathlib.Core.Path.{_≡_, _∙_, ap, refl, sym, subst⁻¹}
 use mathlib.Core.Logic.{⊎-elim}
-use mathlib.Core.Bool.{cond}
+use mathlib.Core.Bool.{cond, _||_}
 use native.Mathlib.Omega.{arith}
-use lib.Dec.{T}
+use native.Mathlib.Nat.{mod-eq-of-lt}
+use lib.Dec.{T, ltb}
 use lib.IntN.{ℤ, pos, negsuc, natAbs, _+ℤ_}
 use lib.Signed.{mag, ltZ, nonNeg}
 use mir.Syntax.{w32}
 use mir.Val.{toZ, ofZ, SFits, Fits}
 use mir.Facts.{toZ-ofZ, fits-of-lt}
+use Rattle.posit.specs.Rounding.{ratio, Rounded}
+use Rattle.posit.specs.Sides.{stands, lies}
+use Rattle.posit.specs.declared.side.Side.the-variants.{Below, On, Above}
 use Rattle.posit.proofs.Regimes.{Layout, laid}
-use Rattle.posit.proofs.Words.{wide, wide-most, clear, gathered}
+use Rattle.posit.proofs.Words.{wide, wide-most, clear, gathered, side-is}
 use Rattle.posit.proofs.rounding.place.Statement.{statement}
 use Rattle.posit.proofs.rounding.place.Tie as tie
 
@@ -105,28 +109,55 @@ wide-read c =
 little : (c : tie.Joined1) → c .if1 .more ≤ 1
 little c = ⊎-elim (λ w. omega arith) (λ w. omega arith) (c .if1 .came)
 
-add-result : tie.Need-add-result
-add-result c = fits-of-lt (let e = wide-read (c .before) in let m = most (c .before .before) in omega arith)
+add-u : tie.Need-add-u
+add-u c = fits-of-lt (let e = wide-read (c .before) in let m = most (c .before .before) in omega arith)
 
-add-result-2 : tie.Need-add-result-2
-add-result-2 c = fits-of-lt (let e = wide-read (c .before .before) in let m = most (c .before .before .before) in let l = little (c .before) in omega arith)
+add-u-2 : tie.Need-add-u-2
+add-u-2 c = fits-of-lt (let e = wide-read (c .before .before) in let m = most (c .before .before .before) in let l = little (c .before) in omega arith)
 
-cast-result : tie.Need-cast-result
-cast-result c = fits-of-lt (let e = wide-read (c .before .before) in let m = most (c .before .before .before) in let l = little (c .before) in omega arith)
+side-of-requires : tie.Need-side-of-requires
+side-of-requires c κs = search needs
+
+-- the answer, by the wide pattern, and its side
+module _ (c : tie.After-side-of) where
+  abbrev w : tie.After-laid-out
+  w = c .before .before .before
+
+  abbrev a : tie.After-run-after
+  a = w .before
+
+  abbrev u : ℕ
+  u = (w .laid-out .result + 0xFFFF_FFFF_FFFF + c .before .before .if1 .more) / 2 ^ 49
+
+  said : a .before .args .rest ≡ ltb 0 (f a % 2 ^ 15)
+  said = a .before .pre .2
+
+  rounded : Rounded 1 16 (ratio (f a * 2 ^ s a) (2 ^ 93)) u
+  rounded =
+      ⊎-elim
+      (λ d. subst⁻¹ (Rounded 1 16 (ratio (f a * 2 ^ s a) (2 ^ 93))) (λ i. (wide-read w i + 0xFFFF_FFFF_FFFF + d .1 i) / 2 ^ 49)
+      (gathered (f a) (s a) (14 - k a) (b a) (omega arith) (omega arith) (layout a) (k a) (tail a)
+      (ltb-true 0 (f a % 2 ^ 15) (sym said ∙ d .0 .taken))))
+      (λ d. subst⁻¹ (Rounded 1 16 (ratio (f a * 2 ^ s a) (2 ^ 93)))
+      (λ i. (wide-read w i + 0xFFFF_FFFF_FFFF + (d .1 ∙ ap (λ (y : ℕ). y / 2 ^ 49 % 2) (wide-read w)) i) / 2 ^ 49)
+      (clear (f a) (s a) (14 - k a) (b a) (omega arith) (omega arith) (layout a) (k a) (tail a)
+      (let z = ltb-false 0 (f a % 2 ^ 15) (sym said ∙ d .0 .left) in omega arith)))
+      (c .before .before .if1 .came)
+
+  shifted : u * 2 ^ 49 % 2 ^ 64 ≡ u * 2 ^ 49
+  shifted = mod-eq-of-lt (let h = rounded .most in omega arith)
+
+  side : c .side-of .result ≡ lies (stands 1 16 (ratio (f a * 2 ^ s a) (2 ^ 93)) u)
+  side =
+      c .side-of .ensures
+      ∙ (λ i. cond (ltb (wide-read w i) (shifted i)) Above (cond (ltb (shifted i) (wide-read w i) || said i) Below On))
+      ∙ sym (side-is (f a) (s a) (14 - k a) (b a) (omega arith) (omega arith) (layout a) (k a) (tail a) u (rounded .least) (rounded .most))
+
+cast-pattern : tie.Need-cast-pattern
+cast-pattern c = fits-of-lt (let h = rounded c .most in omega arith)
 
 returns : tie.Need-returns
-returns c =
-    let w = c .before .before in
-    let a = w .before in
-    let said = a .before .pre .2 in
-    ⊎-elim
-    (λ d. rw (d .1, wide-read w)
-    (gathered (f a) (s a) (14 - k a) (b a) (omega arith) (omega arith) (layout a) (k a) (tail a)
-    (ltb-true 0 (f a % 2 ^ 15) (sym said ∙ d .0 .taken))))
-    (λ d. rw (d .1, wide-read w)
-    (clear (f a) (s a) (14 - k a) (b a) (omega arith) (omega arith) (layout a) (k a) (tail a)
-    (let z = ltb-false 0 (f a % 2 ^ 15) (sym said ∙ d .0 .left) in omega arith)))
-    (c .before .if1 .came)
+returns c = (rounded c, side c)
 
 pub place-spec : {M : Type 1} → statement M
 place-spec =
@@ -140,7 +171,8 @@ place-spec =
     mul-x
     add-x-2
     laid-out-requires
-    add-result
-    add-result-2
-    cast-result
+    add-u
+    add-u-2
+    side-of-requires
+    cast-pattern
     returns)
