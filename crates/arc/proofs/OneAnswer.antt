@@ -1,4 +1,4 @@
--- Any two results that a function's contract allows are equal: each row has one answer.
+-- Any two results that a function's contract allows are equal: each row has one answer, and it has one side.
 use Prim.Native.Nat.{ℕ}
 use mathlib.Core.Path.{_≡_}
 use mathlib.Core.Bool.{cond, _&&_, _||_}
@@ -6,8 +6,9 @@ use lib.Dec.{ltb}
 use lib.IntN.{pos, natAbs}
 use Rattle.posit.specs.Number.{Number, nar, real, number, size}
 use Rattle.posit.specs.Rounding.{over}
-use Rattle.rows.specs.Rows.{names, rounds, Meets}
-use Rattle.rows.proofs.Straight.{StraightRow, either, by-sign-straight, over-straight, one}
+use Rattle.posit.specs.declared.side.Sided.{Sided}
+use Rattle.rows.specs.Rows.{names, rounds, Meets, MeetsSided}
+use Rattle.rows.proofs.Straight.{StraightRow, either, by-sign-straight, over-straight, one, one-sided}
 use Rattle.arc.specs.AtanPi as AtanPi
 use Rattle.arc.specs.AsinPi as AsinPi
 use Rattle.arc.specs.AcosPi as AcosPi
@@ -47,3 +48,12 @@ asin-pi-one p = one (AsinPi.row p) (asin-pi-row p)
 
 pub acos-pi-one : (p r s : ℕ) → Meets (AcosPi.row p) r → Meets (AcosPi.row p) s → r ≡ s
 acos-pi-one p = one (AcosPi.row p) (acos-pi-row p)
+
+pub atan-pi-one-sided : (p : ℕ) (a b : Sided) → MeetsSided (AtanPi.row p) a → MeetsSided (AtanPi.row p) b → a ≡ b
+atan-pi-one-sided p = one-sided (AtanPi.row p) (atan-pi-row p)
+
+pub asin-pi-one-sided : (p : ℕ) (a b : Sided) → MeetsSided (AsinPi.row p) a → MeetsSided (AsinPi.row p) b → a ≡ b
+asin-pi-one-sided p = one-sided (AsinPi.row p) (asin-pi-row p)
+
+pub acos-pi-one-sided : (p : ℕ) (a b : Sided) → MeetsSided (AcosPi.row p) a → MeetsSided (AcosPi.row p) b → a ≡ b
+acos-pi-one-sided p = one-sided (AcosPi.row p) (acos-pi-row p)

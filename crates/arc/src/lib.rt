@@ -5,5 +5,8 @@ mod math;
 
 pub use kernel::square_root;
 pub use math::acos_pi::acos_pi;
+pub use math::acos_pi::acos_pi_sided;
 pub use math::asin_pi::asin_pi;
+pub use math::asin_pi::asin_pi_sided;
 pub use math::atan_pi::atan_pi;
+pub use math::atan_pi::atan_pi_sided;

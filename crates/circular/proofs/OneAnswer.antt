@@ -1,4 +1,4 @@
--- Any two results that a function's contract allows are equal: each row has one answer.
+-- Any two results that a function's contract allows are equal: each row has one answer, and it has one side.
 use Prim.Native.Nat.{ℕ, _-_, _*_, _%_, _^_}
 use mathlib.Core.Path.{_≡_}
 use mathlib.Core.Bool.{cond}
@@ -6,8 +6,9 @@ use lib.Dec.{eqb, ltb}
 use lib.IntN.{pos, natAbs}
 use Rattle.posit.specs.Number.{Number, nar, real, number, size}
 use Rattle.posit.specs.Rounding.{over}
-use Rattle.rows.specs.Rows.{names, rounds, Meets, within, opposed}
-use Rattle.rows.proofs.Straight.{StraightRow, either, opposed-straight, by-sign-straight, over-straight, one}
+use Rattle.posit.specs.declared.side.Sided.{Sided}
+use Rattle.rows.specs.Rows.{names, rounds, Meets, MeetsSided, within, opposed}
+use Rattle.rows.proofs.Straight.{StraightRow, either, opposed-straight, by-sign-straight, over-straight, one, one-sided}
 use Rattle.circular.specs.SinPi as SinPi
 use Rattle.circular.specs.CosPi as CosPi
 use Rattle.circular.specs.TanPi as TanPi
@@ -67,3 +68,12 @@ cos-pi-one p = one (CosPi.row p) (cos-pi-row p)
 
 pub tan-pi-one : (p r s : ℕ) → Meets (TanPi.row p) r → Meets (TanPi.row p) s → r ≡ s
 tan-pi-one p = one (TanPi.row p) (tan-pi-row p)
+
+pub sin-pi-one-sided : (p : ℕ) (a b : Sided) → MeetsSided (SinPi.row p) a → MeetsSided (SinPi.row p) b → a ≡ b
+sin-pi-one-sided p = one-sided (SinPi.row p) (sin-pi-row p)
+
+pub cos-pi-one-sided : (p : ℕ) (a b : Sided) → MeetsSided (CosPi.row p) a → MeetsSided (CosPi.row p) b → a ≡ b
+cos-pi-one-sided p = one-sided (CosPi.row p) (cos-pi-row p)
+
+pub tan-pi-one-sided : (p : ℕ) (a b : Sided) → MeetsSided (TanPi.row p) a → MeetsSided (TanPi.row p) b → a ≡ b
+tan-pi-one-sided p = one-sided (TanPi.row p) (tan-pi-row p)

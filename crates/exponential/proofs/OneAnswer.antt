@@ -1,4 +1,4 @@
--- Any two results that a function's contract allows are equal: each row has one answer.
+-- Any two results that a function's contract allows are equal: each row has one answer, and it has one side.
 use Prim.Native.Nat.{ℕ, _+_, _^_}
 use mathlib.Core.Path.{_≡_}
 use mathlib.Core.Bool.{_||_}
@@ -6,10 +6,11 @@ use lib.Dec.{ltb}
 use lib.IntN.{ℤ, pos, _-ℤ_, _*ℤ_}
 use Rattle.posit.specs.Number.{Number, nar, real, number}
 use Rattle.posit.specs.Rounding.{Known}
+use Rattle.posit.specs.declared.side.Sided.{Sided}
 use Rattle.posit.proofs.Laws.{Straight, dyadic-straight}
 use Rattle.rows.specs.Floor.{floor, modulo}
-use Rattle.rows.specs.Rows.{names, Meets, within}
-use Rattle.rows.proofs.Straight.{StraightRow, either, one}
+use Rattle.rows.specs.Rows.{names, Meets, MeetsSided, within}
+use Rattle.rows.proofs.Straight.{StraightRow, either, one, one-sided}
 use Rattle.exponential.specs.Ends as Ends
 use Rattle.exponential.specs.Exp as Exp
 use Rattle.exponential.specs.Exp2 as Exp2
@@ -45,3 +46,9 @@ exp-one p = one (Exp.row p) (exp-row p)
 
 pub exp2-one : (p r s : ℕ) → Meets (Exp2.row p) r → Meets (Exp2.row p) s → r ≡ s
 exp2-one p = one (Exp2.row p) (exp2-row p)
+
+pub exp-one-sided : (p : ℕ) (a b : Sided) → MeetsSided (Exp.row p) a → MeetsSided (Exp.row p) b → a ≡ b
+exp-one-sided p = one-sided (Exp.row p) (exp-row p)
+
+pub exp2-one-sided : (p : ℕ) (a b : Sided) → MeetsSided (Exp2.row p) a → MeetsSided (Exp2.row p) b → a ≡ b
+exp2-one-sided p = one-sided (Exp2.row p) (exp2-row p)

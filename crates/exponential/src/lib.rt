@@ -4,4 +4,6 @@ mod fixed;
 mod math;
 
 pub use math::exp::exp;
+pub use math::exp::exp_sided;
 pub use math::exp2::exp2;
+pub use math::exp2::exp2_sided;

@@ -1,12 +1,13 @@
--- Any two results that a function's contract allows are equal: each row has one answer.
+-- Any two results that a function's contract allows are equal: each row has one answer, and it has one side.
 use Prim.Native.Nat.{ℕ, zero, suc, _*_, _/_, _^_}
 use mathlib.Core.Path.{_≡_}
 use lib.IntN.{ℤ, pos, negsuc}
 use Rattle.posit.specs.Number.{Number, nar, real, number}
 use Rattle.posit.specs.Rounding.{over}
+use Rattle.posit.specs.declared.side.Sided.{Sided}
 use Rattle.posit.proofs.Laws.{Straight}
-use Rattle.rows.specs.Rows.{Meets}
-use Rattle.rows.proofs.Straight.{StraightRow, negated-straight, over-straight, one}
+use Rattle.rows.specs.Rows.{Meets, MeetsSided}
+use Rattle.rows.proofs.Straight.{StraightRow, negated-straight, over-straight, one, one-sided}
 use Rattle.logarithm.specs.Ln as Ln
 use Rattle.logarithm.specs.Log2 as Log2
 
@@ -41,3 +42,9 @@ ln-one p = one (Ln.row p) (ln-row p)
 
 pub log2-one : (p r s : ℕ) → Meets (Log2.row p) r → Meets (Log2.row p) s → r ≡ s
 log2-one p = one (Log2.row p) (log2-row p)
+
+pub ln-one-sided : (p : ℕ) (a b : Sided) → MeetsSided (Ln.row p) a → MeetsSided (Ln.row p) b → a ≡ b
+ln-one-sided p = one-sided (Ln.row p) (ln-row p)
+
+pub log2-one-sided : (p : ℕ) (a b : Sided) → MeetsSided (Log2.row p) a → MeetsSided (Log2.row p) b → a ≡ b
+log2-one-sided p = one-sided (Log2.row p) (log2-row p)

@@ -3,4 +3,6 @@ mod fixed;
 mod math;
 
 pub use math::ln::ln;
+pub use math::ln::ln_sided;
 pub use math::log2::log2;
+pub use math::log2::log2_sided;

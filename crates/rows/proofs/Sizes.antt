@@ -29,7 +29,7 @@ sign-bit p real = go (decLt 0x8000 p)
     go (yes k) = lt-ltb 0x7fff p (omega arith) ∙ sym (lt-ltb 0x8000 p k)
     go (no k) = le-ltb 0x7fff p (omega arith) ∙ sym (le-ltb 0x8000 p (omega arith))
 
-pub sign-by-bit : (p u : ℕ) → (p ≡ 0x8000 → ⊥) → cond (ltb 0x7fff p) (opposite 16 u) u ≡ cond (ltb 0x8000 p) (opposite 16 u) u
+sign-by-bit : (p u : ℕ) → (p ≡ 0x8000 → ⊥) → cond (ltb 0x7fff p) (opposite 16 u) u ≡ cond (ltb 0x8000 p) (opposite 16 u) u
 sign-by-bit p u real = rw (sign-bit p real)
 
 pub size-by-bit : (p : ℕ) → cond (ltb 0x7fff p) (opposite 16 p) p ≡ size 16 p

@@ -1,4 +1,4 @@
--- A row that names its answer, or rounds a number whose cut goes one way, has one answer.
+-- A row that names its answer, or rounds a number whose cut goes one way, has one answer, and it has one side.
 use Prim.Native.Nat.{ℕ, suc}
 use mathlib.Core.Path.{_≡_, _∙_, sym}
 use mathlib.Core.Bool.{Bool, true, false, cond}
@@ -6,7 +6,9 @@ use lib.Dec.{lit≤}
 use lib.IntN.{ℤ, pos, negsuc, negℤ}
 use Rattle.posit.specs.Rounding.{Known, nought, plus, minus, negated, over}
 use Rattle.posit.proofs.Laws.{Straight, dyadic-straight, one-answer}
-use Rattle.rows.specs.Rows.{Row, names, rounds, Meets, opposed, bySign}
+use Rattle.posit.specs.declared.side.Sided.{Sided}
+use Rattle.posit.proofs.Sides as Sides
+use Rattle.rows.specs.Rows.{Row, names, rounds, Meets, MeetsSided, opposed, bySign}
 
 -- the number that a row rounds has one answer
 abbrev pub StraightRow : Row → Type 0
@@ -43,3 +45,7 @@ over-straight k q = dyadic-straight k (negℤ (pos q))
 pub one : (w : Row) → StraightRow w → (r s : ℕ) → Meets w r → Meets w s → r ≡ s
 one (names u) t r s m n = m ∙ sym n
 one (rounds x) t r s m n = one-answer 1 16 (lit≤ tt) x t r s m n
+
+pub one-sided : (w : Row) → StraightRow w → (a b : Sided) → MeetsSided w a → MeetsSided w b → a ≡ b
+one-sided (names u) t a b m n = λ i. record { pattern = (m .0 ∙ sym (n .0)) i; side = (m .1 ∙ sym (n .1)) i }
+one-sided (rounds x) t a b m n = Sides.one-sided 1 16 (lit≤ tt) x t a b m n

@@ -6,6 +6,10 @@ use lib.Dec.{leb}
 use lib.IntN.{ℤ, pos, negsuc}
 use Rattle.posit.specs.Number.{opposite}
 use Rattle.posit.specs.Rounding.{Known, negated, Rounds}
+use Rattle.posit.specs.Sides.{sideOf}
+use Rattle.posit.specs.declared.side.Side.{Side}
+use Rattle.posit.specs.declared.side.Side.the-variants.{On}
+use Rattle.posit.specs.declared.side.Sided.{Sided}
 
 pub data Row : Type 0 where
   names : ℕ → Row
@@ -15,6 +19,17 @@ pub data Row : Type 0 where
 abbrev pub Meets : Row → ℕ → Type 0
 Meets (names u) r = r ≡ u
 Meets (rounds x) r = Rounds 1 16 x r
+
+-- Document 02, P4: "It speaks of the kernel's fraction, not of the exact mathematical function. Rows answered before the kernel
+-- say "on" where document 01 names the pattern outright or gives the argument itself, and so do the answers 0, 1, -1 and NaR
+-- that rows 5 to 7 give without P."
+abbrev pub sideIn : Row → ℕ → Side
+sideIn (names u) r = On
+sideIn (rounds x) r = sideOf 1 16 x r
+
+-- a is the row's answer with its side
+abbrev pub MeetsSided : Row → Sided → Type 0
+MeetsSided w a = Meets w (a .pattern) × (a .side ≡ sideIn w (a .pattern))
 
 -- "a to b"
 abbrev pub within : ℕ → ℕ → ℕ → Bool

@@ -9,10 +9,12 @@ use native.Mathlib.Decide.{decLt}
 use lib.Dec.{ltb}
 use lib.IntN.{pos, natAbs}
 use Rattle.posit.specs.Number.{number, magnitude, size, withSign}
-use Rattle.posit.specs.Rounding.{Rounds, over}
+use Rattle.posit.specs.Rounding.{over}
+use Rattle.posit.specs.Sides.{RoundsSided}
+use Rattle.posit.specs.declared.side.Sided.{Sided}
 use Rattle.posit.proofs.Patterns.{number-signed}
 use Rattle.arc.specs.Root.{root}
-use Rattle.rows.specs.Rows.{names, Meets}
+use Rattle.rows.specs.Rows.{names, MeetsSided}
 use Rattle.rows.proofs.Sizes.{size-plus, size-minus}
 use Rattle.arc.specs.AcosPi.{poly, arc, otherwise, row}
 
@@ -74,9 +76,10 @@ abs-signed true zero = refl
 abs-signed true (suc m) = refl
 abs-signed false m = refl
 
-pub by-arc : (p r : ℕ) → 165 ≤ p → p ≤ 65307 → (0x4000 < p → 0xC000 ≤ p) → Rounds 1 16 (over (pos (arc p (magnitude 1 16 (size 16 p)))) 30) r → Meets (row p) r
+pub by-arc : (p : ℕ) (a : Sided) → 165 ≤ p → p ≤ 65307 → (0x4000 < p → 0xC000 ≤ p) → RoundsSided 1 16 (over (pos (arc p (magnitude 1 16 (size 16 p)))) 30) a
+    → MeetsSided (row p) a
 unfolding row
-by-arc p r l h out m =
+by-arc p a l h out m =
     rw (
       first (decLt 0x4000 p),
       number-signed 1 16 p (omega arith) (λ e. let k = out (omega arith) in omega arith),

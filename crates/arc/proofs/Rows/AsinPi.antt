@@ -6,13 +6,15 @@ use native.Mathlib.Omega.{arith}
 use borrow.Author.Tests.{lt-ltb, le-ltb}
 use lib.Dec.{ltb}
 use lib.IntN.{pos}
-use Rattle.posit.specs.Number.{magnitude, opposite, size}
-use Rattle.posit.specs.Rounding.{Rounds, over}
+use Rattle.posit.specs.Number.{magnitude, size}
+use Rattle.posit.specs.Rounding.{over}
+use Rattle.posit.specs.Sides.{RoundsSided, outright, negatedSided}
+use Rattle.posit.specs.declared.side.Sided.{Sided}
 use Rattle.posit.proofs.Patterns.{number-zero}
 use Rattle.arc.specs.Root.{root}
-use Rattle.rows.specs.Rows.{names, rounds, Meets}
+use Rattle.rows.specs.Rows.{names, rounds, MeetsSided}
 use Rattle.arc.specs.AsinPi.{poly, arc, otherwise, row}
-use Rattle.rows.proofs.Signs.{number-meets}
+use Rattle.rows.proofs.Signs.{number-sided}
 
 module _ (u k : ℕ) where
   pub arc-below-half : u < 0x3000 → arc u k ≡ poly k
@@ -23,9 +25,9 @@ module _ (u k : ℕ) where
   unfolding arc
   arc-from-half l = rw (le-ltb u 0x3000 l)
 
-pub zero-itself : Meets (row 0) 0
+pub zero-itself : MeetsSided (row 0) (outright 0)
 unfolding row arc poly
-zero-itself = rw (number-zero 1 16)
+zero-itself = rw (number-zero 1 16) (refl, refl)
 
 pub past-one : (p : ℕ) → 0x4000 < size 16 p → row p ≡ names 0x8000
 unfolding row
@@ -34,9 +36,9 @@ past-one p h = rw (lt-ltb 0x4000 (size 16 p) h)
 pub not-nar : (p : ℕ) → size 16 p ≤ 0x4000 → p ≡ 0x8000 → ⊥
 not-nar p s e = let z : 0x8000 ≤ 0x4000 = rw e at s in omega arith
 
-pub by-arc : (p r : ℕ) → 0 < p → p < 0x10000 → size 16 p ≤ 0x4000 → Rounds 1 16 (over (pos (arc (size 16 p) (magnitude 1 16 (size 16 p)))) 30) r
-    → Meets (row p) (cond (ltb 0x8000 p) (opposite 16 r) r)
+pub by-arc : (p : ℕ) (a : Sided) → 0 < p → p < 0x10000 → size 16 p ≤ 0x4000
+    → RoundsSided 1 16 (over (pos (arc (size 16 p) (magnitude 1 16 (size 16 p)))) 30) a → MeetsSided (row p) (cond (ltb 0x8000 p) (negatedSided a) a)
 unfolding row
-by-arc p r l h s m =
+by-arc p a l h s m =
     rw (le-ltb 0x4000 (size 16 p) s)
-    (number-meets p (otherwise (size 16 p)) (λ k. rounds (over (pos (arc (size 16 p) k)) 30)) (λ q. refl) l h (not-nar p s) r m)
+    (number-sided p (otherwise (size 16 p)) (λ k. rounds (over (pos (arc (size 16 p) k)) 30)) (λ q. refl) l h (not-nar p s) a m)

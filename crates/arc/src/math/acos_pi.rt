@@ -2,24 +2,33 @@
 ghost use mathlib.Core.Path.{_≡_};
 ghost use Prim.Native.Nat.{_*_, _^_, _≤_, _<_};
 ghost use Rattle.posit.specs.Number.{magnitude, size};
-ghost use Rattle.rows.specs.Rows.{Meets};
+ghost use Rattle.rows.specs.Rows.{Meets, MeetsSided};
 ghost use Rattle.arc.specs.AcosPi.{poly, arc, row};
+use posit::Sided;
 
-pub fn acos_pi(p: u16) -> u16
-    ensures { λ r. ⌜ Meets (row p) r ⌝ }
+pub fn acos_pi_sided(p: u16) -> Sided
+    ensures { λ a. ⌜ MeetsSided (row p) a ⌝ }
 {
     if 0x4000 < p {
         if p < 0xC000 {
-            return 0x8000; // x is past 1 or -1, or NaR
+            return posit::outright(0x8000); // x is past 1 or -1, or NaR
         }
     }
     if p < 165 {
-        return 0x3000; // so near to zero that the answer is a quarter turn
+        return posit::outright(0x3000); // so near to zero that the answer is a quarter turn
     }
     if 65307 < p {
-        return 0x3000;
+        return posit::outright(0x3000);
     }
-    posit::round(angle(p), -30)
+    posit::round_sided(angle(p), -30)
+}
+
+// The pattern alone.
+pub fn acos_pi(p: u16) -> u16
+    ensures { λ r. ⌜ Meets (row p) r ⌝ }
+{
+    let a = acos_pi_sided(p);
+    a.pattern
 }
 
 // The angle in units of 2^-30; from 1/2 on, and from -1/2 down, by way of the square root of 1 - |x|. What the polynomial gives

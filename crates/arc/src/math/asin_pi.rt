@@ -2,22 +2,31 @@
 ghost use mathlib.Core.Path.{_≡_};
 ghost use Prim.Native.Nat.{_*_, _^_, _≤_, _<_};
 ghost use Rattle.posit.specs.Number.{magnitude};
-ghost use Rattle.rows.specs.Rows.{Meets};
+ghost use Rattle.rows.specs.Rows.{Meets, MeetsSided};
 ghost use Rattle.arc.specs.AsinPi.{poly, arc, row};
+use posit::Sided;
 
-pub fn asin_pi(p: u16) -> u16
-    ensures { λ r. ⌜ Meets (row p) r ⌝ }
+pub fn asin_pi_sided(p: u16) -> Sided
+    ensures { λ a. ⌜ MeetsSided (row p) a ⌝ }
 {
     if p == 0 {
-        return 0;
+        return posit::outright(0);
     }
     let negative = 0x7fff < p;
     let size = posit::signed(negative, p);
     if 0x4000 < size {
-        return 0x8000; // x is past 1 or -1, or NaR
+        return posit::outright(0x8000); // x is past 1 or -1, or NaR
     }
     let k = angle(size) % 0x4000_0000; // the remainder tells the compiler: below 1
-    posit::signed(negative, posit::round(k, -30))
+    posit::signed_sided(negative, posit::round_sided(k, -30))
+}
+
+// The pattern alone.
+pub fn asin_pi(p: u16) -> u16
+    ensures { λ r. ⌜ Meets (row p) r ⌝ }
+{
+    let a = asin_pi_sided(p);
+    a.pattern
 }
 
 // The angle in units of 2^-30; from 1/2 on by way of the square root of 1 - x.

@@ -2,19 +2,28 @@
 ghost use mathlib.Core.Path.{_≡_};
 ghost use Prim.Native.Nat.{_*_, _^_, _≤_, _<_};
 ghost use Rattle.posit.specs.Number.{magnitude};
-ghost use Rattle.rows.specs.Rows.{Meets};
+ghost use Rattle.rows.specs.Rows.{Meets, MeetsSided};
 ghost use Rattle.arc.specs.AtanPi.{poly, small, large, quotient, row};
+use posit::Sided;
 
-pub fn atan_pi(p: u16) -> u16
-    ensures { λ r. ⌜ Meets (row p) r ⌝ }
+pub fn atan_pi_sided(p: u16) -> Sided
+    ensures { λ a. ⌜ MeetsSided (row p) a ⌝ }
 {
     let negative = 0x7fff < p;
     let size = posit::signed(negative, p);
     if size % 0x8000 == 0 {
-        return p; // x is zero, or NaR
+        return posit::outright(p); // x is zero, or NaR
     }
     let k = angle(size) % 0x4000_0000; // the remainder tells the compiler: below 1
-    posit::signed(negative, posit::round(k, -30))
+    posit::signed_sided(negative, posit::round_sided(k, -30))
+}
+
+// The pattern alone.
+pub fn atan_pi(p: u16) -> u16
+    ensures { λ r. ⌜ Meets (row p) r ⌝ }
+{
+    let a = atan_pi_sided(p);
+    a.pattern
 }
 
 // The angle in units of 2^-30, by the range of the magnitude's pattern.

@@ -14,11 +14,13 @@ use mir.Syntax.{w32}
 use mir.Val.{toZ, ofZ}
 use mir.Facts.{toZ-ofZ}
 use Rattle.posit.specs.Number.{number, magnitude, size, opposite, withSign}
-use Rattle.posit.specs.Rounding.{Known, dyadic, Rounds}
+use Rattle.posit.specs.Rounding.{Known, dyadic}
+use Rattle.posit.specs.Sides.{RoundsSided}
+use Rattle.posit.specs.declared.side.Sided.{Sided}
 use Rattle.posit.proofs.Complement.{opposite-is}
 use Rattle.posit.proofs.Patterns.{number-nar, number-signed}
 use Rattle.rows.specs.Floor.{floor, modulo}
-use Rattle.rows.specs.Rows.{names, rounds, Meets}
+use Rattle.rows.specs.Rows.{names, rounds, MeetsSided}
 use Rattle.exponential.specs.Ends.{ends, beyond, otherwise}
 use Rattle.rows.proofs.Sizes.{no-farther, sign-bit, size-by-bit}
 use Rattle.rows.proofs.Whole.{Floors, floors, moved-back}
@@ -108,14 +110,14 @@ module _ {a b c d : ℕ} (o : Ordered a b c d) (kernel : ℤ → Known) where
       inside p l h (λ q r. let k = out q in omega arith) (λ q r. let k = out (omega arith) in omega arith)
       ∙ ap (otherwise kernel) (number-signed 1 16 p (omega arith) (λ e. let k = out (omega arith) in omega arith))
 
-  -- the answer is what posit::round gives for the kernel's number, the parts of which were computed as f and n
-  pub kernel-meets : {p s x f g n : ℕ} {e : ℤ} (K k r : ℕ) → Between a b c d p s x → kernel (withSign (ltb 0x7fff p) x) ≡ dyadic (pos (K + g)) (pos n -ℤ pos k)
-      → f ≡ g → n < 64 → e ≡ pos (n % 64) -ℤ pos k → mag e < 2 ^ 31
-      → Rounds 1 16 (dyadic (pos (K + f)) (toZ w32 (ofZ w32 e))) r → Meets (ends a b c d kernel p) r
-  kernel-meets {p = p} K k r w is u few v fits m =
+  -- the answer is what posit::round_sided gives for the kernel's number, the parts of which were computed as f and n
+  pub kernel-sided : {p s x f g n : ℕ} {e : ℤ} (K k : ℕ) (r : Sided) → Between a b c d p s x
+      → kernel (withSign (ltb 0x7fff p) x) ≡ dyadic (pos (K + g)) (pos n -ℤ pos k) → f ≡ g → n < 64 → e ≡ pos (n % 64) -ℤ pos k → mag e < 2 ^ 31
+      → RoundsSided 1 16 (dyadic (pos (K + f)) (toZ w32 (ofZ w32 e))) r → MeetsSided (ends a b c d kernel p) r
+  kernel-sided {p = p} K k r w is u few v fits m =
       let power = toZ-ofZ {w = w32} (record { sfits = fits }) ∙ v ∙ ap (λ (y : ℕ). pos y -ℤ pos k) (mod-eq-of-lt few) in
       rw (by-kernel p (w .least) (w .most) (w .out), sym (λ i. kernel (withSign (sign-bit p (not-nar o w) i) (size-is o w i))) ∙ is)
-      (subst (λ (y : Known). Rounds 1 16 y r) (λ i. dyadic (pos (K + u i)) (power i)) m)
+      (subst (λ (y : Known). RoundsSided 1 16 y r) (λ i. dyadic (pos (K + u i)) (power i)) m)
 
 -- the ends c and d are as far from zero on both sides, so one test of the size s finds what lies past them
 module _ {a b c d : ℕ} (o : Ordered a b c d) (p s : ℕ) (some : 0 < p) (small : p < 0x10000) (is : s ≡ cond (ltb 0x7fff p) (opposite 16 p) p) where

@@ -10,13 +10,15 @@ use borrow.Author.Tests.{lt-ltb, le-ltb}
 use lib.Dec.{ltb, lit≤}
 use lib.IntN.{ℤ, pos, negsuc, negℤ, _-ℤ_}
 use Rattle.posit.specs.Number.{Number, nar, real, number, magnitude, opposite}
-use Rattle.posit.specs.Rounding.{Known, negated, Rounds}
+use Rattle.posit.specs.Rounding.{Known, negated}
+use Rattle.posit.specs.Sides.{RoundsSided, negatedSided}
+use Rattle.posit.specs.declared.side.Sided.{Sided}
 use Rattle.posit.specs.Decoding.{Decodes}
 use Rattle.posit.proofs.Patterns.{number-zero, number-nar, number-plus, number-minus}
 use Rattle.posit.proofs.Own.{magnitude-some}
-use Rattle.posit.proofs.Laws.{mirrors}
+use Rattle.posit.proofs.Sides.{mirrors-sided}
 use Rattle.logarithm.specs.Leading.{power, fraction}
-use Rattle.rows.specs.Rows.{Row, names, rounds, Meets}
+use Rattle.rows.specs.Rows.{Row, names, rounds, MeetsSided}
 use Rattle.logarithm.proofs.Leading.{decoded-power, decoded-fraction}
 use Rattle.rows.proofs.Whole.{minus-below, minus-above}
 
@@ -49,23 +51,24 @@ module _ {row : Number → Row} {poly : ℕ → ℕ} {U B : ℕ} {answer : ℤ �
   plus-has zero l = absurd (omega arith)
   plus-has (suc k) l = s .to-plus k
 
-  -- what is rounded for the size of l - B, with the sign put back, is what is rounded for l - B
-  difference-rounds : (l u : ℕ) → Rounds 1 16 (sized (ltb l B) ((l - B) + (B - l))) u → Rounds 1 16 (answer (pos l -ℤ pos B)) (cond (ltb l B) (opposite 16 u) u)
-  difference-rounds l u m = go (decLt l B)
+  -- what is rounded for the size of l - B, with the sign put back and the side mirrored, is what is rounded for l - B
+  difference-sided : (l : ℕ) (u : Sided) → RoundsSided 1 16 (sized (ltb l B) ((l - B) + (B - l))) u
+      → RoundsSided 1 16 (answer (pos l -ℤ pos B)) (cond (ltb l B) (negatedSided u) u)
+  difference-sided l u m = go (decLt l B)
     where
-      go : Dec (l < B) → Rounds 1 16 (answer (pos l -ℤ pos B)) (cond (ltb l B) (opposite 16 u) u)
+      go : Dec (l < B) → RoundsSided 1 16 (answer (pos l -ℤ pos B)) (cond (ltb l B) (negatedSided u) u)
       go (yes h) =
           let size : (l - B) + (B - l) ≡ suc (B - suc l) = omega arith in
-          rw (minus-below l B h, lt-ltb l B h, s .of-minus (B - suc l)) (mirrors 1 16 (lit≤ tt) (sized true (suc (B - suc l))) u (rw (lt-ltb l B h, size) at m))
+          rw (minus-below l B h, lt-ltb l B h, s .of-minus (B - suc l)) (mirrors-sided 1 (sized true (suc (B - suc l))) u (rw (lt-ltb l B h, size) at m))
       go (no h) =
           let size : (l - B) + (B - l) ≡ l - B = omega arith in
           rw (minus-above l B (omega arith), le-ltb l B (omega arith), s .of-plus (l - B)) (rw (le-ltb l B (omega arith), size) at m)
 
   -- the answer at a pattern above zero, from what decoding it gives
-  pub at-plus : {p w f g n r : ℕ} (u : ℕ) → 0 < p → p < 0x8000 → Decodes p w f → g ≡ poly f → n ≡ (w * U + g - B) + (B - (w * U + g))
-      → Rounds 1 16 (sized (ltb (w * U + g) B) n) u → r ≡ cond (ltb (w * U + g) B) (opposite 16 u) u → Meets (row (number 1 16 p)) r
-  at-plus {p} {w} {f} {g} {n} {r} u l h d e size m signed =
+  pub at-plus : {p w f g n : ℕ} {a : Sided} (u : Sided) → 0 < p → p < 0x8000 → Decodes p w f → g ≡ poly f → n ≡ (w * U + g - B) + (B - (w * U + g))
+      → RoundsSided 1 16 (sized (ltb (w * U + g) B) n) u → a ≡ cond (ltb (w * U + g) B) (negatedSided u) u → MeetsSided (row (number 1 16 p)) a
+  at-plus {p} {w} {f} {g} u l h d e size m signed =
       let is : U * power (magnitude 1 16 p) + poly (fraction (magnitude 1 16 p)) ≡ w * U + g =
       (λ i. U * decoded-power d i + poly (decoded-fraction d i)) ∙ (λ i. mul-comm U w i + sym e i) in
       rw (number-plus 1 16 p l h, plus-has (magnitude 1 16 p) (magnitude-some 1 16 p (lit≤ tt) l (omega arith)), is, signed)
-      (difference-rounds (w * U + g) u (rw size at m))
+      (difference-sided (w * U + g) u (rw size at m))

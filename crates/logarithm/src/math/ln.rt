@@ -1,25 +1,34 @@
 // The natural logarithm of x, row 3 of document 01.
 ghost use mathlib.Core.Path.{_≡_};
 ghost use Prim.Native.Nat.{_^_, _<_};
-ghost use Rattle.rows.specs.Rows.{Meets};
+ghost use Rattle.rows.specs.Rows.{Meets, MeetsSided};
 ghost use Rattle.logarithm.specs.Ln.{poly, row};
+use posit::Sided;
 
 // l is the logarithm to the base 2 plus 28, in units of 2^-30. What the two signs are multiplied by differs by 1.
-pub fn ln(p: u16) -> u16
-    ensures { λ r. ⌜ Meets (row p) r ⌝ }
+pub fn ln_sided(p: u16) -> Sided
+    ensures { λ a. ⌜ MeetsSided (row p) a ⌝ }
 {
     if p == 0 {
-        return 0x8000;
+        return posit::outright(0x8000);
     }
     if 0x7fff < p {
-        return 0x8000;
+        return posit::outright(0x8000);
     }
     let d = posit::decode(p);
     let l = (d.power as u64) * 0x4000_0000 + ln_poly(d.fraction as u64);
     let negative = l < 28 * 0x4000_0000;
     let size = crate::fixed::apart(l, 28 * 0x4000_0000);
     let scale: u64 = if negative { 186_065_280 } else { 186_065_279 };
-    posit::signed(negative, posit::round((size * scale) >> 28, -30))
+    posit::signed_sided(negative, posit::round_sided((size * scale) >> 28, -30))
+}
+
+// The pattern alone.
+pub fn ln(p: u16) -> u16
+    ensures { λ r. ⌜ Meets (row p) r ⌝ }
+{
+    let a = ln_sided(p);
+    a.pattern
 }
 
 fn ln_poly(f: u64) -> u64

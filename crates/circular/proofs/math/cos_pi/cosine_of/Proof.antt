@@ -10,14 +10,14 @@ use Rattle.circular.proofs.math.cos_pi.cosine_of.Tie as tie
 reduce-requires : tie.Need-reduce-requires
 reduce-requires c κs = search needs
 
-add-signed : tie.Need-add-signed
-add-signed c = search needs
+add-signed-sided : tie.Need-add-signed-sided
+add-signed-sided c = search needs
 
 unsigned-cosine-requires : tie.Need-unsigned-cosine-requires
 unsigned-cosine-requires c κs = search needs
 
-signed-requires : tie.Need-signed-requires
-signed-requires c κs = search needs
+signed-sided-requires : tie.Need-signed-sided-requires
+signed-sided-requires c κs = search needs
 
 returns : tie.Need-returns
 unfolding cosine
@@ -25,7 +25,7 @@ returns c =
     let d = c .before .before .reduce in
     let u = c .before .unsigned-cosine in
     quadrant-sign (λ q. leb 2 ((q + 1) % 4)) unsigned (c .before .before .before .args .x)
-    (d .result .quadrant) (d .result .rest) (u .result) (c .signed .result) (d .ensures .0) (d .ensures .1) (u .ensures) (c .signed .ensures)
+    (d .result .quadrant) (d .result .rest) (u .result) (c .signed-sided .result) (d .ensures .0) (d .ensures .1) (u .ensures) (c .signed-sided .ensures)
 
 pub cosine-of-spec : {M : Type 1} → statement M
-cosine-of-spec = tie.close (tie.spec reduce-requires add-signed unsigned-cosine-requires signed-requires returns)
+cosine-of-spec = tie.close (tie.spec reduce-requires add-signed-sided unsigned-cosine-requires signed-sided-requires returns)

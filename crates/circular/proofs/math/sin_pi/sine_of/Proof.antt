@@ -12,8 +12,8 @@ reduce-requires c κs = search needs
 unsigned-sine-requires : tie.Need-unsigned-sine-requires
 unsigned-sine-requires c κs = search needs
 
-signed-requires : tie.Need-signed-requires
-signed-requires c κs = search needs
+signed-sided-requires : tie.Need-signed-sided-requires
+signed-sided-requires c κs = search needs
 
 returns : tie.Need-returns
 unfolding sine
@@ -21,7 +21,7 @@ returns c =
     let d = c .before .before .reduce in
     let u = c .before .unsigned-sine in
     quadrant-sign (leb 2) unsigned (c .before .before .before .args .x)
-    (d .result .quadrant) (d .result .rest) (u .result) (c .signed .result) (d .ensures .0) (d .ensures .1) (u .ensures) (c .signed .ensures)
+    (d .result .quadrant) (d .result .rest) (u .result) (c .signed-sided .result) (d .ensures .0) (d .ensures .1) (u .ensures) (c .signed-sided .ensures)
 
 pub sine-of-spec : {M : Type 1} → statement M
-sine-of-spec = tie.close (tie.spec reduce-requires unsigned-sine-requires signed-requires returns)
+sine-of-spec = tie.close (tie.spec reduce-requires unsigned-sine-requires signed-sided-requires returns)

@@ -8,7 +8,7 @@ use lib.Dec.{ltb, lit<}
 use Rattle.posit.specs.Number.{magnitude, run, withSign}
 use Rattle.exponential.specs.Exp.{kernel}
 use Rattle.rows.proofs.Signs.{times-signed}
-use Rattle.exponential.proofs.Rows.Ends.{Between, nearest, kernel-meets}
+use Rattle.exponential.proofs.Rows.Ends.{Between, nearest, kernel-sided}
 use Rattle.exponential.proofs.Rows.Exp.{ordered, kernel-moved}
 use Rattle.exponential.proofs.math.exp.kernel.Statement.{statement}
 use Rattle.exponential.proofs.math.exp.kernel.Tie as tie
@@ -41,8 +41,8 @@ moved-requires c κs = (near c, lit< tt)
 exp-poly-requires : tie.Need-exp-poly-requires
 exp-poly-requires c κs = search needs
 
-add-round : tie.Need-add-round
-add-round c = search needs
+add-round-sided : tie.Need-add-round-sided
+add-round-sided c = search needs
 
 add-less : tie.Need-add-less
 add-less c = search needs
@@ -50,8 +50,8 @@ add-less c = search needs
 less-requires : tie.Need-less-requires
 less-requires c κs = search needs
 
-round-requires : tie.Need-round-requires
-round-requires c κs = search needs
+round-sided-requires : tie.Need-round-sided-requires
+round-sided-requires c κs = search needs
 
 returns : tie.Need-returns
 returns c =
@@ -60,13 +60,13 @@ returns c =
     let x = u .units .result in
     let m = c .before .before .before .moved in
     let few : m .result / 2 ^ 28 / 2 ^ 25 < 64 = omega (arith, m .ensures .1) in
-    kernel-meets ordered kernel (2 ^ 37) 69 (c .round .result) (between u)
+    kernel-sided ordered kernel (2 ^ 37) 69 (c .round-sided .result) (between u)
     (kernel-moved (withSign (ltb 0x7fff p) x) (m .result) (rw (times-signed (ltb 0x7fff p) x 48408813) (m .ensures .0)))
     (c .before .before .exp-poly .ensures .0)
     few
     (c .before .less .ensures)
     (c .before .less .ok)
-    (c .round .ensures)
+    (c .round-sided .ensures)
 
 pub kernel-spec : {M : Type 1} → statement M
 kernel-spec =
@@ -77,8 +77,8 @@ kernel-spec =
     mul-moved
     moved-requires
     exp-poly-requires
-    add-round
+    add-round-sided
     add-less
     less-requires
-    round-requires
+    round-sided-requires
     returns)

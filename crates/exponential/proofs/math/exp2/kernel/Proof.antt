@@ -6,7 +6,7 @@ use native.Mathlib.Nat.{lt-of-le-of-lt}
 use lib.Dec.{ltb, lit<}
 use Rattle.posit.specs.Number.{magnitude, run, withSign}
 use Rattle.exponential.specs.Exp2.{kernel}
-use Rattle.exponential.proofs.Rows.Ends.{Between, nearest, kernel-meets}
+use Rattle.exponential.proofs.Rows.Ends.{Between, nearest, kernel-sided}
 use Rattle.exponential.proofs.Rows.Exp2.{ordered, kernel-moved}
 use Rattle.exponential.proofs.math.exp2.kernel.Statement.{statement}
 use Rattle.exponential.proofs.math.exp2.kernel.Tie as tie
@@ -36,8 +36,8 @@ moved-requires c κs = (near c, lit< tt)
 exp2-poly-requires : tie.Need-exp2-poly-requires
 exp2-poly-requires c κs = search needs
 
-add-round : tie.Need-add-round
-add-round c = search needs
+add-round-sided : tie.Need-add-round-sided
+add-round-sided c = search needs
 
 add-less : tie.Need-add-less
 add-less c = search needs
@@ -45,8 +45,8 @@ add-less c = search needs
 less-requires : tie.Need-less-requires
 less-requires c κs = search needs
 
-round-requires : tie.Need-round-requires
-round-requires c κs = search needs
+round-sided-requires : tie.Need-round-sided-requires
+round-sided-requires c κs = search needs
 
 returns : tie.Need-returns
 returns c =
@@ -55,13 +55,24 @@ returns c =
     let x = u .units .result in
     let m = c .before .before .before .moved in
     let few : m .result / 2 ^ 28 < 64 = omega (arith, m .ensures .1) in
-    kernel-meets ordered kernel (2 ^ 26) 58 (c .round .result) (between u)
+    kernel-sided ordered kernel (2 ^ 26) 58 (c .round-sided .result) (between u)
     (kernel-moved (withSign (ltb 0x7fff p) x) (m .result) (m .ensures .0))
     (c .before .before .exp2-poly .ensures .0)
     few
     (c .before .less .ensures)
     (c .before .less .ok)
-    (c .round .ensures)
+    (c .round-sided .ensures)
 
 pub kernel-spec : {M : Type 1} → statement M
-kernel-spec = tie.close (tie.spec signed-requires units-requires moved-requires exp2-poly-requires add-round add-less less-requires round-requires returns)
+kernel-spec =
+    tie.close
+    (tie.spec
+    signed-requires
+    units-requires
+    moved-requires
+    exp2-poly-requires
+    add-round-sided
+    add-less
+    less-requires
+    round-sided-requires
+    returns)

@@ -1,4 +1,4 @@
--- `logarithm::math::ln::ln` meets its contract: no logarithm where the number is not above zero, and else row 3's.
+-- `logarithm::math::ln::ln_sided` meets its contract: no logarithm where the number is not above zero, and else row 3's.
 use native.Mathlib.Omega.{arith}
 use borrow.Author.Needs.{needs}
 use Prim.Native.Nat.{_+_, _*_, _/_, _^_, _≤_}
@@ -13,20 +13,26 @@ use Rattle.posit.specs.Rounding.{over}
 use Rattle.logarithm.specs.Ln.{poly, logarithm, natural, otherwise, row}
 use Rattle.rows.proofs.Products.{product}
 use Rattle.logarithm.proofs.Rows.Logarithms.{Logarithmic, at-zero, at-nar-or-minus, at-plus}
-use Rattle.logarithm.proofs.math.ln.ln.Statement.{statement}
-use Rattle.logarithm.proofs.math.ln.ln.Tie as tie
+use Rattle.logarithm.proofs.math.ln.ln_sided.Statement.{statement}
+use Rattle.logarithm.proofs.math.ln.ln_sided.Tie as tie
 
 logarithmic : Logarithmic otherwise poly (2 ^ 30) (2 ^ 30 * 28) natural (λ b d. over (pos (d * cond b 186065280 186065279 / 2 ^ 28)) 30)
 unfolding logarithm
 logarithmic = record { to-nar = refl; to-zero = refl; to-minus = λ k. refl; to-plus = λ k. refl; of-plus = λ d. refl; of-minus = λ d. refl }
 
+outright-requires : tie.Need-outright-requires
+outright-requires c κs = search needs
+
 returns : tie.Need-returns
 unfolding row
-returns c = rw (at-zero logarithmic (c .before .args .p) (c .if1 .taken))
+returns c = rw (at-zero logarithmic (c .before .before .args .p) (c .before .if1 .taken), c .outright .ensures) (refl, refl)
+
+outright-requires-2 : tie.Need-outright-requires-2
+outright-requires-2 c κs = search needs
 
 returns-2 : tie.Need-returns-2
 unfolding row
-returns-2 c = rw (at-nar-or-minus logarithmic (c .before .before .args .p) (c .if2 .taken))
+returns-2 c = rw (at-nar-or-minus logarithmic (c .before .before .before .args .p) (c .before .if2 .taken), c .outright2 .ensures) (refl, refl)
 
 decode-requires : tie.Need-decode-requires
 decode-requires c κs = search needs
@@ -55,18 +61,18 @@ mul-apart c = search needs
 apart-requires : tie.Need-apart-requires
 apart-requires c κs = search needs
 
-mul-round : tie.Need-mul-round
-mul-round c =
+mul-round-sided : tie.Need-mul-round-sided
+mul-round-sided c =
     let a = c .before .before in
     let few = a .before .before .before .before .decode .ensures .few in
     let small : c .before .if3 .scale ≤ 2 ^ 28 = ⊎-elim (λ w. omega arith) (λ w. omega arith) (c .before .if3 .came) in
     fits-of-lt (lt-of-le-of-lt (product (2 ^ 35) (2 ^ 28) (omega arith) small) (lit< tt))
 
-round-requires : tie.Need-round-requires
-round-requires c κs = search needs
+round-sided-requires : tie.Need-round-sided-requires
+round-sided-requires c κs = search needs
 
-signed-requires : tie.Need-signed-requires
-signed-requires c κs = search needs
+signed-sided-requires : tie.Need-signed-sided-requires
+signed-sided-requires c κs = search needs
 
 returns-3 : tie.Need-returns-3
 unfolding row
@@ -77,14 +83,16 @@ returns-3 c =
     let d = l .before .before .before in
     let scale : s .scale ≡ cond (ltb (d .decode .result .power * 2 ^ 30 + l .ln-poly .result) (2 ^ 30 * 28)) 186065280 186065279 =
     ⊎-elim (λ w. rw (w .0 .taken) (w .1)) (λ w. rw (w .0 .left) (w .1)) (s .came) in
-    at-plus logarithmic (c .before .round .result) (omega arith) (omega arith) (d .decode .ensures)
-    (l .ln-poly .ensures .0) (a .apart .ensures) (rw scale at (c .before .round .ensures)) (c .signed .ensures)
+    at-plus logarithmic (c .before .round-sided .result) (omega arith) (omega arith) (d .decode .ensures)
+    (l .ln-poly .ensures .0) (a .apart .ensures) (rw scale at (c .before .round-sided .ensures)) (c .signed-sided .ensures)
 
-pub ln-spec : {M : Type 1} → statement M
-ln-spec =
+pub ln-sided-spec : {M : Type 1} → statement M
+ln-sided-spec =
     tie.close
     (tie.spec
+    outright-requires
     returns
+    outright-requires-2
     returns-2
     decode-requires
     cast-l
@@ -95,7 +103,7 @@ ln-spec =
     mul-negative
     mul-apart
     apart-requires
-    mul-round
-    round-requires
-    signed-requires
+    mul-round-sided
+    round-sided-requires
+    signed-sided-requires
     returns-3)

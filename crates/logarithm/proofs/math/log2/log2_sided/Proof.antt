@@ -1,4 +1,4 @@
--- `logarithm::math::log2::log2` meets its contract: no logarithm where the number is not above zero, and else row 4's.
+-- `logarithm::math::log2::log2_sided` meets its contract: no logarithm where the number is not above zero, and else row 4's.
 use native.Mathlib.Omega.{arith}
 use borrow.Author.Needs.{needs}
 use Prim.Native.Nat.{_*_, _%_, _^_}
@@ -8,20 +8,26 @@ use lib.IntN.{pos}
 use Rattle.posit.specs.Rounding.{over}
 use Rattle.logarithm.specs.Log2.{poly, logarithm, otherwise, row}
 use Rattle.logarithm.proofs.Rows.Logarithms.{Logarithmic, at-zero, at-nar-or-minus, at-plus}
-use Rattle.logarithm.proofs.math.log2.log2.Statement.{statement}
-use Rattle.logarithm.proofs.math.log2.log2.Tie as tie
+use Rattle.logarithm.proofs.math.log2.log2_sided.Statement.{statement}
+use Rattle.logarithm.proofs.math.log2.log2_sided.Tie as tie
 
 logarithmic : Logarithmic otherwise poly (2 ^ 28) (2 ^ 28 * 28) (λ z. over z 28) (λ b d. over (pos d) 28)
 unfolding logarithm
 logarithmic = record { to-nar = refl; to-zero = refl; to-minus = λ k. refl; to-plus = λ k. refl; of-plus = λ d. refl; of-minus = λ d. refl }
 
+outright-requires : tie.Need-outright-requires
+outright-requires c κs = search needs
+
 returns : tie.Need-returns
 unfolding row
-returns c = rw (at-zero logarithmic (c .before .args .p) (c .if1 .taken))
+returns c = rw (at-zero logarithmic (c .before .before .args .p) (c .before .if1 .taken), c .outright .ensures) (refl, refl)
+
+outright-requires-2 : tie.Need-outright-requires-2
+outright-requires-2 c κs = search needs
 
 returns-2 : tie.Need-returns-2
 unfolding row
-returns-2 c = rw (at-nar-or-minus logarithmic (c .before .before .args .p) (c .if2 .taken))
+returns-2 c = rw (at-nar-or-minus logarithmic (c .before .before .before .args .p) (c .before .if2 .taken), c .outright2 .ensures) (refl, refl)
 
 decode-requires : tie.Need-decode-requires
 decode-requires c κs = search needs
@@ -50,11 +56,11 @@ mul-apart c = search needs
 apart-requires : tie.Need-apart-requires
 apart-requires c κs = search needs
 
-round-requires : tie.Need-round-requires
-round-requires c κs = search needs
+round-sided-requires : tie.Need-round-sided-requires
+round-sided-requires c κs = search needs
 
-signed-requires : tie.Need-signed-requires
-signed-requires c κs = search needs
+signed-sided-requires : tie.Need-signed-sided-requires
+signed-sided-requires c κs = search needs
 
 returns-3 : tie.Need-returns-3
 unfolding row
@@ -62,14 +68,16 @@ returns-3 c =
     let l = c .before .before .before in
     let d = l .before .before .before in
     let w : d .decode .result .power % 64 ≡ d .decode .result .power = mod-eq-of-lt (let h = d .decode .ensures .few in omega arith) in
-    at-plus logarithmic (c .before .round .result) (omega arith) (omega arith) (rw w (d .decode .ensures))
-    (l .log2-poly .ensures .0) (c .before .before .apart .ensures) (c .before .round .ensures) (c .signed .ensures)
+    at-plus logarithmic (c .before .round-sided .result) (omega arith) (omega arith) (rw w (d .decode .ensures))
+    (l .log2-poly .ensures .0) (c .before .before .apart .ensures) (c .before .round-sided .ensures) (c .signed-sided .ensures)
 
-pub log2-spec : {M : Type 1} → statement M
-log2-spec =
+pub log2-sided-spec : {M : Type 1} → statement M
+log2-sided-spec =
     tie.close
     (tie.spec
+    outright-requires
     returns
+    outright-requires-2
     returns-2
     decode-requires
     cast-l
@@ -80,6 +88,6 @@ log2-spec =
     mul-negative
     mul-apart
     apart-requires
-    round-requires
-    signed-requires
+    round-sided-requires
+    signed-sided-requires
     returns-3)
