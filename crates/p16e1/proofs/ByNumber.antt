@@ -7,10 +7,13 @@ use native.Mathlib.Omega.{arith}
 use borrow.Author.Tests.{le-leb, lt-leb}
 use lib.Dec.{eqb, lit≤}
 use Rattle.posit.proofs.Exists.{answered}
-use Rattle.rows.specs.Rows.{Row, names, rounds, Meets}
-use Rattle.p16e1.specs.Functions.{known, rowOf, Answers, answerTo, answerOf}
+use Rattle.posit.specs.declared.side.Sided.{Sided}
+use Rattle.rows.specs.Rows.{Row, names, rounds, Meets, MeetsSided}
+use Rattle.p16e1.specs.Functions.{known, rowOf, Answers, AnswersSided, answerTo, answerOf, sidedTo, sidedOf}
 use Rattle.p16e1.specs.declared.functions.Answered.{Answered}
 use Rattle.p16e1.specs.declared.functions.Answered.the-variants.{Pattern, Unknown}
+use Rattle.p16e1.specs.declared.functions.AnsweredSided.{AnsweredSided}
+use Rattle.p16e1.specs.declared.functions.AnsweredSided.the-variants as Side
 use Rattle.exponential.specs.Exp as Exp
 use Rattle.exponential.specs.Exp2 as Exp2
 use Rattle.logarithm.specs.Ln as Ln
@@ -21,7 +24,7 @@ use Rattle.circular.specs.TanPi as TanPi
 use Rattle.arc.specs.AtanPi as AtanPi
 use Rattle.arc.specs.AsinPi as AsinPi
 use Rattle.arc.specs.AcosPi as AcosPi
-use Rattle.rows.proofs.Straight.{StraightRow, either, one}
+use Rattle.rows.proofs.Straight.{StraightRow, either, one, one-sided}
 use Rattle.exponential.proofs.OneAnswer.{exp-row, exp2-row}
 use Rattle.logarithm.proofs.OneAnswer.{ln-row, log2-row}
 use Rattle.circular.proofs.OneAnswer.{sin-pi-row, cos-pi-row, tan-pi-row}
@@ -84,9 +87,28 @@ pub answer-is : (f p r : ℕ) → Meets (rowOf f p) r → r ≡ answerOf f p
 unfolding answerOf
 answer-is f p r m = one (rowOf f p) (row-straight f p) r (answerTo (rowOf f p)) m (meets-answer (rowOf f p))
 
+-- so is the computed side
+pub meets-sided : (w : Row) → MeetsSided w (sidedTo w)
+meets-sided w = (meets-answer w, refl)
+
+pub sided-is : (f p : ℕ) (a : Sided) → MeetsSided (rowOf f p) a → a ≡ sidedOf f p
+unfolding sidedOf
+sided-is f p a m = one-sided (rowOf f p) (row-straight f p) a (sidedTo (rowOf f p)) m (meets-sided (rowOf f p))
+
+-- the pattern of the two is the old entry's
+pub sided-answer : (f p : ℕ) → sidedOf f p .pattern ≡ answerOf f p
+unfolding sidedOf answerOf
+sided-answer f p = refl
+
 -- any two answers that the contract allows are equal
 pub one-answered : (f p : ℕ) (a b : Answered) → Answers f p a → Answers f p b → a ≡ b
 one-answered f p (Pattern r) (Pattern s) m n = ap Pattern (one (rowOf f p) (row-straight f p) r s (m .1) (n .1))
 one-answered f p (Pattern r) Unknown m n = let z : _≡_ {A = ℕ} 0 1 = cc in absurd (omega arith)
 one-answered f p Unknown (Pattern s) m n = let z : _≡_ {A = ℕ} 0 1 = cc in absurd (omega arith)
 one-answered f p Unknown Unknown m n = refl
+
+pub one-answered-sided : (f p : ℕ) (a b : AnsweredSided) → AnswersSided f p a → AnswersSided f p b → a ≡ b
+one-answered-sided f p (Side.Pattern r) (Side.Pattern s) m n = ap Side.Pattern (one-sided (rowOf f p) (row-straight f p) r s (m .1) (n .1))
+one-answered-sided f p (Side.Pattern r) Side.Unknown m n = let z : _≡_ {A = ℕ} 0 1 = cc in absurd (omega arith)
+one-answered-sided f p Side.Unknown (Side.Pattern s) m n = let z : _≡_ {A = ℕ} 0 1 = cc in absurd (omega arith)
+one-answered-sided f p Side.Unknown Side.Unknown m n = refl

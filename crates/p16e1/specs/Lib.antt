@@ -1,3 +1,4 @@
 pub mod Functions
 pub mod Points
 pub mod TwoPoints
+pub mod SidedPoints

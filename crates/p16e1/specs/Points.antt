@@ -5,7 +5,8 @@ use mathlib.Core.List.{List, [], _∷_}
 use lib.IntN.{ℤ, pos, negsuc}
 use Rattle.posit.specs.Number.{real, number}
 use Rattle.posit.specs.Rounding.{dyadic, Rounds}
-use Rattle.rows.specs.Rows.{Meets}
+use Rattle.posit.specs.declared.side.Side.{Side}
+use Rattle.rows.specs.Rows.{Meets, MeetsSided}
 use Rattle.p16e1.specs.Functions.{rowOf}
 
 pub data Point : Type 0 where
@@ -15,11 +16,14 @@ pub data Point : Type 0 where
   rounds-to : (e : ℤ) (u : ℕ) → Point
   -- the function f of p is r
   of : (f p r : ℕ) → Point
+  -- and lies on the side s of the number that was rounded
+  sided : (f p r : ℕ) (s : Side) → Point
 
 abbrev pub Holds : Point → Type 0
 Holds (is p q) = number 1 16 p ≡ real (pos q)
 Holds (rounds-to e u) = Rounds 1 16 (dyadic (pos 1) e) u
 Holds (of f p r) = Meets (rowOf f p) r
+Holds (sided f p r s) = MeetsSided (rowOf f p) (record { pattern = r; side = s })
 
 abbrev pub Every : List Point → Type 0
 Every [] = Unit {0}

@@ -1,10 +1,16 @@
 // The ten functions by their numbers, for whoever is told by a number which one to take.
 ghost use mathlib.Core.Path.{_≡_};
 ghost use mathlib.Core.Bool.{cond};
-ghost use Rattle.p16e1.specs.Functions.{known, Answers, answerOf};
+ghost use Rattle.p16e1.specs.Functions.{known, Answers, AnswersSided, answerOf};
+use posit::Sided;
 
 pub enum Answered {
     Pattern(u16),
+    Unknown,
+}
+
+pub enum AnsweredSided {
+    Pattern(Sided),
     Unknown,
 }
 
@@ -44,5 +50,24 @@ pub fn answer_or_nar(function: u16, p: u16) -> u16
         9 => arc::asin_pi(p),
         10 => arc::acos_pi(p),
         _ => 0x8000,
+    }
+}
+
+// The answer of the function with that number, and the side on which it lies of the number that was rounded.
+pub fn answer_sided(function: u16, p: u16) -> AnsweredSided
+    ensures { λ r. ⌜ AnswersSided function p r ⌝ }
+{
+    match function {
+        1 => AnsweredSided::Pattern(exponential::exp_sided(p)),
+        2 => AnsweredSided::Pattern(exponential::exp2_sided(p)),
+        3 => AnsweredSided::Pattern(logarithm::ln_sided(p)),
+        4 => AnsweredSided::Pattern(logarithm::log2_sided(p)),
+        5 => AnsweredSided::Pattern(circular::sin_pi_sided(p)),
+        6 => AnsweredSided::Pattern(circular::cos_pi_sided(p)),
+        7 => AnsweredSided::Pattern(circular::tan_pi_sided(p)),
+        8 => AnsweredSided::Pattern(arc::atan_pi_sided(p)),
+        9 => AnsweredSided::Pattern(arc::asin_pi_sided(p)),
+        10 => AnsweredSided::Pattern(arc::acos_pi_sided(p)),
+        _ => AnsweredSided::Unknown,
     }
 }
