@@ -18,6 +18,7 @@
 
 #include "balehasp.h"
 #include "model.h"
+#include "rows.h"
 
 #define FUNCTIONS 10
 #define PATTERNS 65536
@@ -93,13 +94,14 @@ static void expect_same(const Guarded *g, const char *what, uint64_t a, uint64_t
 
 /* ---- the functions, all patterns */
 
+static uint16_t (*const entries[FUNCTIONS + 1])(uint16_t) = {
+    [BALEHASP_EXP] = balehasp_exp, [BALEHASP_EXP2] = balehasp_exp2, [BALEHASP_LN] = balehasp_ln,
+    [BALEHASP_LOG2] = balehasp_log2, [BALEHASP_SIN_PI] = balehasp_sin_pi, [BALEHASP_COS_PI] = balehasp_cos_pi,
+    [BALEHASP_TAN_PI] = balehasp_tan_pi, [BALEHASP_ATAN_PI] = balehasp_atan_pi,
+    [BALEHASP_ASIN_PI] = balehasp_asin_pi, [BALEHASP_ACOS_PI] = balehasp_acos_pi};
+
 static void each_function(void)
 {
-    uint16_t (*const entries[FUNCTIONS + 1])(uint16_t) = {
-        [BALEHASP_EXP] = balehasp_exp, [BALEHASP_EXP2] = balehasp_exp2, [BALEHASP_LN] = balehasp_ln,
-        [BALEHASP_LOG2] = balehasp_log2, [BALEHASP_SIN_PI] = balehasp_sin_pi, [BALEHASP_COS_PI] = balehasp_cos_pi,
-        [BALEHASP_TAN_PI] = balehasp_tan_pi, [BALEHASP_ATAN_PI] = balehasp_atan_pi,
-        [BALEHASP_ASIN_PI] = balehasp_asin_pi, [BALEHASP_ACOS_PI] = balehasp_acos_pi};
     for (unsigned f = 1; f <= FUNCTIONS; f++) {
         for (unsigned p = 0; p < PATTERNS; p++) {
             expect(entries[f]((uint16_t)p) == answers[f - 1][p], "a function differs from the Rust", f, p);
@@ -1021,6 +1023,142 @@ static void reals(void)
     printf("65536 patterns to f64 and their spans, and %u numbers from f64: as the rule's\n", 65535 * 9 + 10 + rounds);
 }
 
+/* ---- the answers with their sides */
+
+typedef uint16_t SidedCall(uint16_t, uint16_t, uint16_t *, int8_t *);
+
+/* The archive's own entry, whose name the header gives to the function before it. */
+#undef balehasp_sided
+static SidedCall *const sided_entry = balehasp_sided;
+#define balehasp_sided balehasp_sided_checked
+
+static Guarded answer_room, side_room;
+
+/* What a call writes at `at`, if that is a place, done to the copy of the buffer in which it lies. */
+static void model_give(const uint8_t *at, const void *result, size_t size)
+{
+    Guarded *room = at && answer_room.bytes <= at && at < answer_room.bytes + answer_room.size ? &answer_room : &side_room;
+    if (at)
+        memcpy(room->before + (at - room->bytes), result, size);
+}
+
+/* One call into these places. The header's function takes none for either, and a side's that lies in the answer's. */
+static Sided one_sided(SidedCall *call, uint16_t f, uint16_t p, uint8_t *answer, uint8_t *side)
+{
+    bool known = 1 <= f && f <= FUNCTIONS;
+    Sided wants = known ? model_sided(f, p) : (Sided){0, 0};
+    int8_t number = wants.side < 0 ? BALEHASP_BELOW : wants.side > 0 ? BALEHASP_ABOVE : BALEHASP_ON;
+    keep(&answer_room);
+    keep(&side_room);
+    if (known) {
+        model_give(answer, &wants.answer, sizeof wants.answer);
+        model_give(side, &number, sizeof number);
+    }
+    uint16_t said = call(f, p, (uint16_t *)(void *)answer, (int8_t *)side);
+    expect(said == (known ? 0 : BALEHASP_REFUSED_FUNCTION), "the refusal of an answer with its side", f, p);
+    expect_same(&answer_room, "an answer with its side, at the answer", f, p);
+    expect_same(&side_room, "an answer with its side, at the side", f, p);
+    return wants;
+}
+
+/* The entry and the header's function, each into places of its own. */
+static Sided sided_apart(uint16_t f, uint16_t p)
+{
+    uint8_t *answer = place(&answer_room, sizeof(uint16_t), below(2)), *side = place(&side_room, sizeof(int8_t), below(2));
+    one_sided(sided_entry, f, p, answer, side);
+    answer = place(&answer_room, sizeof(uint16_t), below(2)), side = place(&side_room, sizeof(int8_t), below(2));
+    return one_sided(balehasp_sided, f, p, answer, side);
+}
+
+enum { NO_ANSWER, NO_SIDE, NO_PLACE, ODD, OVERLAP, WAYS };
+
+/* The header's function with a place left out, an answer at an odd address, or the side in one of the answer's bytes. */
+static void sided_otherwise(uint16_t f, uint16_t p, unsigned ways[WAYS])
+{
+    bool at_end = below(2);
+    uint8_t *answer = place(&answer_room, sizeof(uint16_t), at_end), *side = place(&side_room, sizeof(int8_t), below(2));
+    unsigned way = (unsigned)below(WAYS);
+    switch (way) {
+    case NO_ANSWER: answer = NULL; break;
+    case NO_SIDE: side = NULL; break;
+    case NO_PLACE: answer = side = NULL; break;
+    case ODD: answer += at_end ? -1 : 1; break;
+    case OVERLAP: side = answer + below(sizeof(uint16_t)); break;
+    }
+    one_sided(balehasp_sided, f, p, answer, side);
+    ways[way]++;
+}
+
+/* Cases with their outcome written out, so that what P4 and the header say of them holds of the model as well. */
+static void sides_by_name(void)
+{
+    static const struct {
+        uint16_t function, p, answer;
+        int side;
+    } cases[] = {
+        /* on the kernel's fraction, and above the exact logarithm */
+        {BALEHASP_LN, 0x2F0B, 0xC8D9, BALEHASP_ON},
+        /* a kernel that gives 0 */
+        {BALEHASP_LN, 0x4000, 0x0000, BALEHASP_ON},
+        {BALEHASP_LOG2, 0x4000, 0x0000, BALEHASP_ON},
+        {BALEHASP_ACOS_PI, 0x4000, 0x0000, BALEHASP_ON},
+        /* named outright, or the argument itself */
+        {BALEHASP_EXP, 0x7FFF, 0x7FFF, BALEHASP_ON},
+        {BALEHASP_EXP, 0x8001, 0x0001, BALEHASP_ON},
+        {BALEHASP_EXP, 0x0001, 0x4000, BALEHASP_ON},
+        {BALEHASP_EXP2, 0xFFFF, 0x4000, BALEHASP_ON},
+        {BALEHASP_ASIN_PI, 0x4001, 0x8000, BALEHASP_ON},
+        {BALEHASP_ACOS_PI, 0x0001, 0x3000, BALEHASP_ON},
+        {BALEHASP_ATAN_PI, 0x8000, 0x8000, BALEHASP_ON},
+        /* -1, 0, NaR and 1 without P, and 1 rounded from P */
+        {BALEHASP_SIN_PI, 0xD000, 0xC000, BALEHASP_ON},
+        {BALEHASP_COS_PI, 0x3000, 0x0000, BALEHASP_ON},
+        {BALEHASP_TAN_PI, 0xD000, 0x8000, BALEHASP_ON},
+        {BALEHASP_TAN_PI, 0x2000, 0x4000, BALEHASP_ON},
+        {BALEHASP_COS_PI, 0x0001, 0x4000, BALEHASP_ABOVE},
+        /* 2^27 and 2^-27, and tiny numbers of both signs */
+        {BALEHASP_EXP2, 0x72C0, 0x7FFE, BALEHASP_BELOW},
+        {BALEHASP_EXP2, 0x8D40, 0x0002, BALEHASP_ABOVE},
+        {BALEHASP_ATAN_PI, 0x0001, 0x0001, BALEHASP_ABOVE},
+        {BALEHASP_ATAN_PI, 0xFFFF, 0xFFFF, BALEHASP_BELOW}};
+    for (size_t i = 0; i < sizeof cases / sizeof *cases; i++) {
+        Sided found = sided_apart(cases[i].function, cases[i].p);
+        expect(found.answer == cases[i].answer && found.side == cases[i].side, "a side by name", cases[i].function, cases[i].p);
+    }
+}
+
+static void sides(void)
+{
+    static const char *const names[FUNCTIONS + 1] = {
+        [BALEHASP_EXP] = "exp", [BALEHASP_EXP2] = "exp2", [BALEHASP_LN] = "ln", [BALEHASP_LOG2] = "log2",
+        [BALEHASP_SIN_PI] = "sin_pi", [BALEHASP_COS_PI] = "cos_pi", [BALEHASP_TAN_PI] = "tan_pi",
+        [BALEHASP_ATAN_PI] = "atan_pi", [BALEHASP_ASIN_PI] = "asin_pi", [BALEHASP_ACOS_PI] = "acos_pi"};
+    unsigned ways[WAYS] = {0};
+    answer_room = guarded(1);
+    side_room = guarded(1);
+    sides_by_name();
+    for (uint16_t f = 1; f <= FUNCTIONS; f++) {
+        unsigned lie[3] = {0, 0, 0};
+        for (unsigned p = 0; p < PATTERNS; p++) {
+            Sided right = sided_apart(f, (uint16_t)p);
+            expect(right.answer == answers[f - 1][p], "the model of the rows differs from the Rust", f, p);
+            expect(right.answer == entries[f]((uint16_t)p), "an answer with its side differs from the one without", f, p);
+            lie[right.side + 1]++;
+            sided_otherwise(f, (uint16_t)p, ways);
+        }
+        printf("%s: %u answers below the number that was rounded, %u on it, %u above it\n", names[f], lie[0], lie[1], lie[2]);
+    }
+    for (unsigned f = 0; f < 65536; f++)
+        if (f < 1 || f > FUNCTIONS) {
+            sided_apart((uint16_t)f, (uint16_t)noise());
+            sided_otherwise((uint16_t)f, (uint16_t)noise(), ways);
+        }
+    puts("655360 answers with their sides, by the entry and by the header: all as the exact model's, the answers as the Rust's");
+    puts("65526 unknown function numbers, by both: refused, neither place written");
+    printf("all of these again without the answer's place, the side's, both, at an odd address, one in the other: "
+           "%u, %u, %u, %u, %u\n", ways[NO_ANSWER], ways[NO_SIDE], ways[NO_PLACE], ways[ODD], ways[OVERLAP]);
+}
+
 static void read_answers(const char *path)
 {
     FILE *file = fopen(path, "rb");
@@ -1054,6 +1192,7 @@ int main(int words, char **word)
     listings();
     differences();
     reals();
+    sides();
     puts("outside: all passed");
     return 0;
 }

@@ -1,5 +1,6 @@
-/* balehasp: ten functions of 16-bit posits with one exponent bit, with negation, sums, differences and products, the turn of a
- * lever arm, a batch, a listing, the differences of two answered listings, conversions with double, and spans.
+/* balehasp: ten functions of 16-bit posits with one exponent bit, also with the way each answer was rounded; negation, sums,
+ * differences and products, the turn of a lever arm, a batch, a listing, the differences of two answered listings, conversions
+ * with double, and spans.
  *
  * A posit is passed as its pattern, a uint16_t. 0x0000 is zero and 0x8000 is NaR ("not a real"). NaR is an answer and not an
  * error: ln of a negative number is NaR, and a call that answers it has succeeded.
@@ -21,9 +22,9 @@
 #include <string.h>
 
 #define BALEHASP_VERSION_MAJOR 0
-#define BALEHASP_VERSION_MINOR 4
+#define BALEHASP_VERSION_MINOR 5
 #define BALEHASP_VERSION_PATCH 0
-#define BALEHASP_VERSION "0.4.0"
+#define BALEHASP_VERSION "0.5.0"
 
 /* Has the compiler warn where a result is dropped. */
 #if (defined __cplusplus && __cplusplus >= 201703L) || (defined __STDC_VERSION__ && __STDC_VERSION__ > 201710L)
@@ -71,6 +72,13 @@ enum {
  * it does nothing. It goes before every refusal. */
 #define BALEHASP_MISUSED ((uint16_t)0xFFFF)
 
+/* The sides on which balehasp_sided says that an answer lies. */
+enum {
+    BALEHASP_BELOW = -1, /* the answer is less than the number that was rounded */
+    BALEHASP_ON = 0,     /* it is that number, or it was given outright */
+    BALEHASP_ABOVE = 1   /* it is greater than that number */
+};
+
 /* The bytes of the longest listing, ten functions and 1,024 patterns, and of the longest answered one. */
 #define BALEHASP_LONGEST_LISTING 2072
 #define BALEHASP_LONGEST_ANSWERED 22554
@@ -109,6 +117,21 @@ void balehasp_turn(uint16_t heading, uint16_t pitch, uint16_t roll, const uint16
 /* The function with that number, of p: writes the answer to *answer and returns 0. Refusal: 1, with *answer as it was, which
  * is stale then. */
 BALEHASP_MUST_USE uint16_t balehasp_answer(uint16_t function, uint16_t p, uint16_t *answer);
+
+/* The side speaks of the kernel's fraction, the number that the function's row in document 01 rounds, and not of the exact
+ * function. Writes to *answer what balehasp_answer writes, and to *side whether that answer lies below the number that was
+ * rounded, on it or above it: BALEHASP_BELOW, BALEHASP_ON or BALEHASP_ABOVE. Returns 0.
+ * The kernel's fraction can be a little off the exact value, so the side does not say where the answer lies of that: ln of
+ * 0x2F0B is 0xC8D9 and BALEHASP_ON, since fraction and answer are both -5927/8192, and it lies above the exact logarithm.
+ * An answer that was not rounded is BALEHASP_ON, however far it is from the exact value: where the row names the pattern
+ * outright (NaR; of exp and exp2 0x4000 near zero, 0x7FFF and 0x0001 far out; of acos_pi 0x3000 near zero) or gives the
+ * argument itself, and where sin_pi, cos_pi and tan_pi give 0, 1, -1 or NaR without their kernel. A kernel's 0 is a number like
+ * any other: ln of 1 is 0, BALEHASP_ON.
+ * Below and above are meant of signed numbers. Past the ends: a number above 2^28 gets 0x7FFF, which lies below it, and one
+ * between 0 and 2^-28 gets 0x0001, above it; a negative one gets 0x8001, above it, or 0xFFFF, below it.
+ * Refusal: 1, with *answer and *side as they were, which are stale then. Either place may be NULL. Neither needs to be aligned,
+ * and they may overlap: the answer is written first, then the side. */
+BALEHASP_MUST_USE uint16_t balehasp_sided(uint16_t function, uint16_t p, uint16_t *answer, int8_t *side);
 
 /* Answers the patterns input[start], input[start + 1], .. one after the other, at most `limit` of them and none past the
  * input's end, each at the same place of `output`, which is at least as long as the input. No other place of the output
@@ -197,6 +220,18 @@ BALEHASP_MUST_USE static inline uint16_t balehasp_answer_checked(uint16_t functi
     uint16_t found = 0, refusal = balehasp_answer(function, p, &found);
     if (refusal == 0)
         balehasp_give(answer, &found, sizeof found);
+    return refusal;
+}
+
+BALEHASP_MUST_USE static inline uint16_t balehasp_sided_checked(uint16_t function, uint16_t p, uint16_t *answer, int8_t *side)
+{
+    uint16_t found = 0;
+    int8_t lies = 0;
+    uint16_t refusal = balehasp_sided(function, p, &found, &lies);
+    if (refusal == 0) {
+        balehasp_give(answer, &found, sizeof found);
+        balehasp_give(side, &lies, sizeof lies);
+    }
     return refusal;
 }
 
@@ -320,6 +355,7 @@ BALEHASP_MUST_USE static inline bool balehasp_span_checked(uint16_t p, double *l
 }
 
 #define balehasp_answer balehasp_answer_checked
+#define balehasp_sided balehasp_sided_checked
 #define balehasp_turn balehasp_turn_checked
 #define balehasp_batch balehasp_batch_checked
 #define balehasp_listing balehasp_listing_checked

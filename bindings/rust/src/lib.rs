@@ -1,5 +1,6 @@
-//! Ten functions of 16-bit posits with one exponent bit, with negation, sums, differences and products, the turn of a lever arm,
-//! a batch, a listing, the differences of two answered listings, conversions with `f64`, and spans.
+//! Ten functions of 16-bit posits with one exponent bit, also with the way each answer was rounded; negation, sums, differences
+//! and products, the turn of a lever arm, a batch, a listing, the differences of two answered listings, conversions with `f64`,
+//! and spans.
 //!
 //! A posit is passed as its pattern, a `u16`. `0x0000` is zero and [`NAR`] is NaR ("not a real"). NaR is an answer and not an
 //! error: `ln` of a negative number is NaR, and a call that answers it has succeeded. What a call can refuse is a [`Refusal`];
@@ -229,6 +230,7 @@ extern "C" {
     fn balehasp_multiply(a: u16, b: u16) -> u16;
     fn balehasp_turn(heading: u16, pitch: u16, roll: u16, arm: *const [u16; 3], turned: *mut [u16; 3]);
     fn balehasp_answer(function: u16, p: u16, answer: *mut u16) -> u16;
+    fn balehasp_sided(function: u16, p: u16, answer: *mut u16, side: *mut i8) -> u16;
     fn balehasp_batch(
         function: u16,
         input: *const u16,
@@ -346,6 +348,106 @@ pub fn answer_by_number(function: u16, p: u16) -> Result<u16, Refusal> {
     // SAFETY: the place lives through the call.
     let refusal = unsafe { balehasp_answer(function, p, &mut answer) };
     Refusal::unless(refusal, answer)
+}
+
+/// The side of the number that was rounded on which an answer lies, with the sides' numbers; [`sided`] says what that number is.
+///
+/// ```
+/// use balehasp::{sided, Function, Side};
+/// assert_eq!(sided(Function::AtanPi, 0x0001).side, Side::Above);
+/// assert_eq!(sided(Function::AtanPi, 0xFFFF).side, Side::Below);
+/// ```
+#[derive(Clone, Copy, Debug, PartialEq, Eq, Hash)]
+#[repr(i8)]
+pub enum Side {
+    /// The answer is less than the number that was rounded.
+    Below = -1,
+    /// The answer is that number, or it was given outright.
+    On = 0,
+    /// The answer is greater than that number.
+    Above = 1,
+}
+
+impl Side {
+    /// The side's number.
+    ///
+    /// ```
+    /// assert_eq!(balehasp::Side::Below.number(), -1);
+    /// ```
+    #[must_use]
+    pub const fn number(self) -> i8 {
+        self as i8
+    }
+}
+
+/// An answer and its side.
+///
+/// ```
+/// use balehasp::{sided, Function, Side, Sided};
+/// assert_eq!(sided(Function::Exp2, 0x4000), Sided { answer: 0x5000, side: Side::On });
+/// ```
+#[derive(Clone, Copy, Debug, PartialEq, Eq)]
+pub struct Sided {
+    /// The answer, as [`answer`] gives it.
+    pub answer: u16,
+    /// Where it lies of the number that was rounded.
+    pub side: Side,
+}
+
+/// The function of p, with a side that speaks of the kernel's fraction, the number that the function's row in document 01
+/// rounds, and not of the exact function: the answer lies below that number, on it or above it. It is never refused.
+///
+/// The kernel's fraction can be a little off the exact value, so the side does not say where the answer lies of that. `ln` of
+/// `0x2F0B` is `0xC8D9`, and on the number that was rounded, since both are -5927/8192, but it lies above the exact logarithm.
+///
+/// An answer that was not rounded is `On`, however far it is from the exact value: where the row names the pattern outright
+/// (NaR; of `exp` and `exp2` `0x4000` near zero, `0x7FFF` and `0x0001` far out; of `acos_pi` `0x3000` near zero) or gives the
+/// argument itself, and where `sin_pi`, `cos_pi` and `tan_pi` give 0, 1, -1 or NaR without their kernel. A kernel's 0 is a
+/// number like any other: `ln` of 1 is 0, `On`.
+///
+/// Below and above are meant of signed numbers. Past the ends: a number above 2^28 gets `0x7FFF`, which lies below it, and one
+/// between 0 and 2^-28 gets `0x0001`, above it; a negative one gets `0x8001`, above it, or `0xFFFF`, below it.
+///
+/// ```
+/// use balehasp::{sided, to_f64, Function, Real, Side, Sided, NAR};
+/// let ln = sided(Function::Ln, 0x2F0B);
+/// assert_eq!(ln, Sided { answer: 0xC8D9, side: Side::On });
+/// assert_eq!(to_f64(0x2F0B), Real::Real(7947.0 / 16384.0));
+/// assert!(matches!(to_f64(ln.answer), Real::Real(answer) if answer > f64::ln(7947.0 / 16384.0)));
+///
+/// assert_eq!(sided(Function::Exp, 0x7FFF), Sided { answer: 0x7FFF, side: Side::On });
+/// assert_eq!(sided(Function::TanPi, 0x3000), Sided { answer: NAR, side: Side::On });
+/// assert_eq!(sided(Function::CosPi, 0x0000), Sided { answer: 0x4000, side: Side::On });
+/// assert_eq!(sided(Function::CosPi, 0x0001), Sided { answer: 0x4000, side: Side::Above });
+/// ```
+#[must_use]
+pub fn sided(function: Function, p: u16) -> Sided {
+    sided_or_refused(function.number(), p).1 // a `Function`'s number is not refused
+}
+
+/// The function with that number, of p, and the side of [`sided`], for a number from outside. Refused: `Function`.
+///
+/// ```
+/// use balehasp::{sided_by_number, Refusal, Side, Sided};
+/// assert_eq!(sided_by_number(3, 0x2F0B), Ok(Sided { answer: 0xC8D9, side: Side::On }));
+/// assert_eq!(sided_by_number(11, 0x2F0B), Err(Refusal::Function));
+/// ```
+#[must_use = "a refused call has no answer"]
+pub fn sided_by_number(function: u16, p: u16) -> Result<Sided, Refusal> {
+    let (refusal, found) = sided_or_refused(function, p);
+    Refusal::unless(refusal, found)
+}
+
+fn sided_or_refused(function: u16, p: u16) -> (u16, Sided) {
+    let (mut answer, mut side) = (0, 0);
+    // SAFETY: both places live through the call and do not overlap.
+    let refusal = unsafe { balehasp_sided(function, p, &mut answer, &mut side) };
+    let side = match side {
+        -1 => Side::Below,
+        0 => Side::On,
+        _ => Side::Above, // 1: there are no others
+    };
+    (refusal, Sided { answer, side })
 }
 
 /// What a batch did.

@@ -3,9 +3,13 @@
 //! The answers are what oracle/record writes; BALEHASP_ANSWERS names the file where it is not in its place in the tree.
 use balehasp::{
     acos_pi, add, answer, answer_by_number, asin_pi, atan_pi, batch, batch_by_number, cos_pi, difference, differences, exp,
-    exp2, from_f64, listing, ln, log2, multiply, negate, sin_pi, span, subtract, tan_pi, to_f64, turn, Batched, Function, Real,
-    Refusal, Span, LONGEST_ANSWERED, LONGEST_LISTING, NAR,
+    exp2, from_f64, listing, ln, log2, multiply, negate, sided, sided_by_number, sin_pi, span, subtract, tan_pi, to_f64,
+    turn, Batched, Function, Real, Refusal, Side, Sided, Span, LONGEST_ANSWERED, LONGEST_LISTING, NAR,
 };
+use rows::{row, Row};
+use std::cmp::Ordering;
+
+mod rows;
 
 const ROUNDS: usize = 100_000;
 const PAIRS: usize = 50_000;
@@ -442,6 +446,21 @@ impl Exact {
         }
     }
 
+    /// A row's answer, and the side on which it lies of the number that was rounded.
+    fn sided(&self, row: Row) -> Sided {
+        let x = match row {
+            Row::Outright(answer) => return Sided { answer, side: Side::On },
+            Row::Rounded(x) => x,
+        };
+        let answer = self.rounded(x, 40);
+        let side = match (Self::units(answer) << 42).cmp(&x) {
+            Ordering::Less => Side::Below,
+            Ordering::Equal => Side::On,
+            Ordering::Greater => Side::Above,
+        };
+        Sided { answer, side }
+    }
+
     fn sum(&self, a: u16, b: u16) -> u16 {
         if a == NAR || b == NAR {
             return NAR;
@@ -503,6 +522,46 @@ fn operations_and_turns() {
         assert_eq!(turn(heading, pitch, roll, arm), exact.turned(&answers, angles, arm), "{angles:x?} {arm:x?}");
     }
     println!("{} pairs of patterns and {TURNS} turns: as the exact model's", special.len().pow(2) + ROUNDS);
+}
+
+/// How many answers of each function lie below, on and above the number that was rounded.
+const SIDES: [[usize; 3]; 10] = [
+    [28826, 8165, 28545],
+    [29168, 7214, 29154],
+    [16322, 32771, 16443],
+    [16447, 32824, 16265],
+    [31232, 3072, 31232],
+    [30380, 3096, 32060],
+    [30718, 4100, 30718],
+    [32763, 10, 32763],
+    [16379, 32778, 16379],
+    [16236, 33162, 16138],
+];
+
+#[test]
+fn all_655360_sides() {
+    let (answers, exact) = (Answers::read(), Exact::new());
+    let all = [Side::Below, Side::On, Side::Above];
+    assert_eq!(all.map(Side::number), [-1, 0, 1]);
+    let mut count = 0;
+    for ((number, function, call), counted) in FUNCTIONS.into_iter().zip(SIDES) {
+        let mut found = [0; 3];
+        for p in 0..=u16::MAX {
+            let x = if p == NAR { 0 } else { Exact::units(p) };
+            let right = exact.sided(row(number, p, x));
+            assert_eq!(sided(function, p), right, "{function:?} of {p:#06x}");
+            assert_eq!(sided_by_number(number, p), Ok(right), "{function:?} of {p:#06x}");
+            assert_eq!([right.answer; 2], [answers.of(number, p), call(p)], "{function:?} of {p:#06x}");
+            found[all.iter().position(|&side| side == right.side).unwrap()] += 1;
+            count += 1;
+        }
+        assert_eq!(found, counted, "{function:?}");
+    }
+    for number in (0..=u16::MAX).filter(|number| !(1..=10).contains(number)) {
+        assert_eq!(sided_by_number(number, 0x4000), Err(Refusal::Function));
+    }
+    assert_eq!(count, 655_360);
+    println!("{count} answers with their sides: all as the exact model's of the ten rows, the answers as the Rust's");
 }
 
 #[test]

@@ -4,3 +4,4 @@ mod calls;
 mod functions;
 mod operations;
 mod reals;
+mod sided;
