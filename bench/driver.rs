@@ -1,49 +1,86 @@
 // The ten functions of softposit 0.4.0 and those of balehasp on the same inputs, called one by one through pointers of one
-// type, in three orders; then the batch and the listing beside plain loops over the Rust functions; then the operations and the
-// turn, which have no Rust beside them. Prints nanoseconds a call or a pattern, the median of several runs that take turns, and
-// the ratio. The clock is the thread's own, which stands still while other programs have the processor. With the words
-// `count SIDE WORK` one side does one thing once and nothing is printed, for a tool that counts instructions.
+// type, in three orders; then the batch and the listing beside plain loops over the Rust functions; then the operations, the turn
+// and the functions by number, without the side and with it, which have no Rust beside them. Prints nanoseconds a call or a
+// pattern, the median of several runs that take turns, and the ratio. The clock is the thread's own, which stands still while
+// other programs have the processor. With the words `count SIDE WORK` one side does one thing once and nothing is printed, for a
+// tool that counts instructions.
+//
+// Compiled with cfg(before) the other side is not the Rust but another archive of balehasp, libbefore.a, whose entries' names
+// begin with other_ in place of balehasp_; then batch, listing, operations and turn have theirs beside them too.
+#[cfg(not(before))]
 mod original;
 
-use original::P16E1;
 use std::hint::black_box;
 
 type Function = extern "C" fn(u16) -> u16;
 type Operation = extern "C" fn(u16, u16) -> u16;
+type Turn = unsafe extern "C" fn(u16, u16, u16, *const [u16; 3], *mut [u16; 3]);
+type Batch = unsafe extern "C" fn(u16, *const u16, usize, *mut u16, usize, usize, usize, *mut usize, *mut usize) -> u16;
+type Listing = unsafe extern "C" fn(*const u8, usize, *mut u8, usize, *mut usize) -> u16;
+
+// What an archive has beside the ten functions.
+#[derive(Clone, Copy)]
+struct Calls {
+    operations: [Operation; 3],
+    turn: Turn,
+    batch: Batch,
+    listing: Listing,
+}
+
+macro_rules! archive {
+    ($link:literal $calls:ident: $($function:ident)*; $add:ident $subtract:ident $multiply:ident $turn:ident $batch:ident $listing:ident) => {
+        #[link(name = $link, kind = "static")]
+        unsafe extern "C" {
+            $(safe fn $function(p: u16) -> u16;)*
+            safe fn $add(a: u16, b: u16) -> u16;
+            safe fn $subtract(a: u16, b: u16) -> u16;
+            safe fn $multiply(a: u16, b: u16) -> u16;
+            fn $turn(heading: u16, pitch: u16, roll: u16, arm: *const [u16; 3], turned: *mut [u16; 3]);
+            fn $batch(function: u16, input: *const u16, inputs: usize, output: *mut u16, outputs: usize, start: usize, limit: usize, next: *mut usize, nars: *mut usize) -> u16;
+            fn $listing(input: *const u8, inputs: usize, output: *mut u8, outputs: usize, written: *mut usize) -> u16;
+        }
+        const $calls: Calls = Calls { operations: [$add, $subtract, $multiply], turn: $turn, batch: $batch, listing: $listing };
+    };
+}
 
 macro_rules! sides {
     ($($name:ident $theirs:ident $ours:ident)*) => {
         $(
+            #[cfg(not(before))]
             #[inline(never)]
             extern "C" fn $theirs(p: u16) -> u16 {
-                P16E1::from_bits(p).$name().to_bits()
+                original::P16E1::from_bits(p).$name().to_bits()
             }
         )*
-        #[link(name = "balehasp", kind = "static")]
-        unsafe extern "C" {
-            $(safe fn $ours(p: u16) -> u16;)*
-            safe fn balehasp_add(a: u16, b: u16) -> u16;
-            safe fn balehasp_subtract(a: u16, b: u16) -> u16;
-            safe fn balehasp_multiply(a: u16, b: u16) -> u16;
-            fn balehasp_turn(heading: u16, pitch: u16, roll: u16, arm: *const [u16; 3], turned: *mut [u16; 3]);
-            fn balehasp_batch(function: u16, input: *const u16, inputs: usize, output: *mut u16, outputs: usize, start: usize, limit: usize, next: *mut usize, nars: *mut usize) -> u16;
-            fn balehasp_listing(input: *const u8, inputs: usize, output: *mut u8, outputs: usize, written: *mut usize) -> u16;
-        }
+        #[cfg(before)]
+        archive! { "before" BEFORE: $($theirs)*; other_add other_subtract other_multiply other_turn other_batch other_listing }
+        archive! { "balehasp" OURS: $($ours)*; balehasp_add balehasp_subtract balehasp_multiply balehasp_turn balehasp_batch balehasp_listing }
         const FUNCTIONS: [(&str, Function, Function); 10] = [$((stringify!($name), $theirs, $ours)),*];
     };
 }
 
 sides! {
-    exp rust_exp balehasp_exp
-    exp2 rust_exp2 balehasp_exp2
-    ln rust_ln balehasp_ln
-    log2 rust_log2 balehasp_log2
-    sin_pi rust_sin_pi balehasp_sin_pi
-    cos_pi rust_cos_pi balehasp_cos_pi
-    tan_pi rust_tan_pi balehasp_tan_pi
-    atan_pi rust_atan_pi balehasp_atan_pi
-    asin_pi rust_asin_pi balehasp_asin_pi
-    acos_pi rust_acos_pi balehasp_acos_pi
+    exp other_exp balehasp_exp
+    exp2 other_exp2 balehasp_exp2
+    ln other_ln balehasp_ln
+    log2 other_log2 balehasp_log2
+    sin_pi other_sin_pi balehasp_sin_pi
+    cos_pi other_cos_pi balehasp_cos_pi
+    tan_pi other_tan_pi balehasp_tan_pi
+    atan_pi other_atan_pi balehasp_atan_pi
+    asin_pi other_asin_pi balehasp_asin_pi
+    acos_pi other_acos_pi balehasp_acos_pi
+}
+
+// What the other side has beside the ten functions: of the Rust nothing.
+#[cfg(before)]
+const THEIRS: Option<Calls> = Some(BEFORE);
+#[cfg(not(before))]
+const THEIRS: Option<Calls> = None;
+
+unsafe extern "C" {
+    fn balehasp_answer(function: u16, p: u16, answer: *mut u16) -> u16;
+    fn balehasp_sided(function: u16, p: u16, answer: *mut u16, side: *mut i8) -> u16;
 }
 
 // Nanoseconds that this thread has run.
@@ -69,8 +106,12 @@ fn sweep(f: Function, inputs: &[u16]) -> u64 {
     inputs.iter().map(|&p| u64::from(f(p))).sum()
 }
 
+// The batch of the other side, or a plain loop where it has none.
 #[inline(never)]
-fn rust_batch(function: usize, input: &[u16], output: &mut [u16]) -> usize {
+fn their_batch(function: usize, input: &[u16], output: &mut [u16]) -> usize {
+    if let Some(calls) = THEIRS {
+        return batch_of(calls.batch, function, input, output);
+    }
     let f = FUNCTIONS[function - 1].1;
     let mut nars = 0;
     for (place, &p) in output.iter_mut().zip(input) {
@@ -81,11 +122,14 @@ fn rust_batch(function: usize, input: &[u16], output: &mut [u16]) -> usize {
 }
 
 fn our_batch(function: usize, input: &[u16], output: &mut [u16]) -> usize {
+    batch_of(OURS.batch, function, input, output)
+}
+
+fn batch_of(batch: Batch, function: usize, input: &[u16], output: &mut [u16]) -> usize {
     let (mut next, mut nars) = (0, 0);
     // SAFETY: each pointer comes with the length of its own slice, and the two slices are apart.
-    let refusal = unsafe {
-        balehasp_batch(function as u16, input.as_ptr(), input.len(), output.as_mut_ptr(), output.len(), 0, usize::MAX, &mut next, &mut nars)
-    };
+    let refusal =
+        unsafe { batch(function as u16, input.as_ptr(), input.len(), output.as_mut_ptr(), output.len(), 0, usize::MAX, &mut next, &mut nars) };
     assert!(refusal == 0 && next == input.len());
     nars
 }
@@ -102,21 +146,24 @@ fn operate(f: Operation, inputs: &[u16]) -> u64 {
 
 // Each six patterns in a row: three angles and an arm.
 #[inline(never)]
-fn turn(inputs: &[u16]) -> u64 {
+fn turns(turn: Turn, inputs: &[u16]) -> u64 {
     let mut turned = [0; 3];
     inputs
         .windows(6)
         .map(|six| {
             // SAFETY: both places live through the call and are apart.
-            unsafe { balehasp_turn(six[0], six[1], six[2], &[six[3], six[4], six[5]], &mut turned) };
+            unsafe { turn(six[0], six[1], six[2], &[six[3], six[4], six[5]], &mut turned) };
             turned.iter().map(|&part| u64::from(part)).sum::<u64>()
         })
         .sum()
 }
 
-// A listing that is in order, answered.
+// A listing that is in order, answered by the other side, or by plain loops where it has no such call.
 #[inline(never)]
-fn rust_listing(input: &[u8], output: &mut [u8]) -> usize {
+fn their_listing(input: &[u8], output: &mut [u8]) -> usize {
+    if let Some(calls) = THEIRS {
+        return listing_of_bytes(calls.listing, input, output);
+    }
     let functions = usize::from(number_at(input, 0));
     let from = 2 + 2 * functions + 2;
     let patterns = usize::from(number_at(input, from - 2));
@@ -134,9 +181,13 @@ fn rust_listing(input: &[u8], output: &mut [u8]) -> usize {
 }
 
 fn our_listing(input: &[u8], output: &mut [u8]) -> usize {
+    listing_of_bytes(OURS.listing, input, output)
+}
+
+fn listing_of_bytes(listing: Listing, input: &[u8], output: &mut [u8]) -> usize {
     let mut written = 0;
-    // SAFETY: as in `our_batch`.
-    let refusal = unsafe { balehasp_listing(input.as_ptr(), input.len(), output.as_mut_ptr(), output.len(), &mut written) };
+    // SAFETY: as in `batch_of`.
+    let refusal = unsafe { listing(input.as_ptr(), input.len(), output.as_mut_ptr(), output.len(), &mut written) };
     assert!(refusal == 0);
     written
 }
@@ -192,7 +243,7 @@ fn median(mut times: Vec<f64>) -> f64 {
     times[times.len() / 2]
 }
 
-// Nanoseconds a unit of work for the Rust and for balehasp, which take turns and must agree on what they return.
+// Nanoseconds a unit of work for the other side and for balehasp, which take turns and must agree on what they return.
 fn pair<T: PartialEq + std::fmt::Debug>(units: usize, mut theirs: impl FnMut() -> T, mut ours: impl FnMut() -> T) -> (f64, f64) {
     assert_eq!(theirs(), ours());
     let mut times = (Vec::new(), Vec::new());
@@ -214,16 +265,44 @@ fn line(what: &str, (theirs, ours): (f64, f64)) {
     println!("{what:<34} {theirs:>8.2} {ours:>8.2} {:>7.2}", ours / theirs);
 }
 
-// What has no Rust beside it.
+// What the other side may have or not.
+fn beside<T: PartialEq + std::fmt::Debug>(what: &str, units: usize, of: impl Fn(&Calls) -> T) {
+    match THEIRS {
+        Some(theirs) => line(what, pair(units, || of(&theirs), || of(&OURS))),
+        None => alone(what, units, || of(&OURS)),
+    }
+}
+
 fn alone<T: PartialEq + std::fmt::Debug>(what: &str, units: usize, work: impl Fn() -> T) {
     println!("{what:<34} {:>8} {:>8.2}", "", pair(units, &work, &work).1);
 }
 
 fn operations(order: &str, inputs: &[u16]) {
-    for (name, f) in [("add", balehasp_add as Operation), ("subtract", balehasp_subtract), ("multiply", balehasp_multiply)] {
-        alone(&format!("{name}, {order}"), inputs.len() - 1, || operate(f, inputs));
+    for (i, name) in ["add", "subtract", "multiply"].into_iter().enumerate() {
+        beside(&format!("{name}, {order}"), inputs.len() - 1, |calls| operate(calls.operations[i], inputs));
     }
-    alone(&format!("turn, {order}"), inputs.len() - 5, || turn(inputs));
+    beside(&format!("turn, {order}"), inputs.len() - 5, |calls| turns(calls.turn, inputs));
+}
+
+// All ten by their numbers, function by function.
+fn by_number(order: &str, inputs: &[u16]) {
+    let each = |call: &dyn Fn(u16, u16) -> i64| (1..=10).map(|f| inputs.iter().map(|&p| call(f, p)).sum::<i64>()).sum::<i64>();
+    alone(&format!("answer, {order}"), 10 * inputs.len(), || {
+        each(&|f, p| {
+            let mut answer = 0;
+            // SAFETY: the place lives through the call.
+            unsafe { balehasp_answer(f, p, &mut answer) };
+            i64::from(answer)
+        })
+    });
+    alone(&format!("sided, {order}"), 10 * inputs.len(), || {
+        each(&|f, p| {
+            let (mut answer, mut side) = (0, 0);
+            // SAFETY: both places live through the call and do not overlap.
+            unsafe { balehasp_sided(f, p, &mut answer, &mut side) };
+            i64::from(answer) + i64::from(side)
+        })
+    });
 }
 
 fn functions(order: &str, inputs: &[u16]) {
@@ -240,7 +319,7 @@ fn batches(inputs: &[u16]) {
     let mut output = (vec![0; inputs.len()], vec![0; inputs.len()]);
     let times = pair(
         10 * inputs.len(),
-        || (1..=10).map(|f| rust_batch(f, inputs, &mut output.0)).sum::<usize>(),
+        || (1..=10).map(|f| their_batch(f, inputs, &mut output.0)).sum::<usize>(),
         || (1..=10).map(|f| our_batch(f, inputs, &mut output.1)).sum::<usize>(),
     );
     line(&format!("batch, ten times {} patterns", inputs.len()), times);
@@ -250,7 +329,7 @@ fn listings(patterns: &[u16]) {
     let input = listing_of(patterns);
     let length = input.len() + 2 + 20 * patterns.len();
     let mut output = (vec![0; length], vec![0; length]);
-    let times = pair(10 * patterns.len(), || rust_listing(&input, &mut output.0), || our_listing(&input, &mut output.1));
+    let times = pair(10 * patterns.len(), || their_listing(&input, &mut output.0), || our_listing(&input, &mut output.1));
     line(&format!("listing, 10 by {}", patterns.len()), times);
     assert_eq!(output.0, output.1);
 }
@@ -263,10 +342,10 @@ fn count(side: &str, work: &str, inputs: &[u16]) {
     match work {
         "none" => (),
         "batch" => (1..=10).for_each(|f| {
-            black_box(if rust { rust_batch(f, inputs, &mut output) } else { our_batch(f, inputs, &mut output) });
+            black_box(if rust { their_batch(f, inputs, &mut output) } else { our_batch(f, inputs, &mut output) });
         }),
         "listing" => {
-            black_box(if rust { rust_listing(&listing, &mut answered) } else { our_listing(&listing, &mut answered) });
+            black_box(if rust { their_listing(&listing, &mut answered) } else { our_listing(&listing, &mut answered) });
         }
         _ => {
             let (_, theirs, ours) = FUNCTIONS.into_iter().find(|(name, ..)| *name == work).expect("a function's name");
@@ -284,7 +363,7 @@ fn main() {
     }
     let in_order: Vec<u16> = (0..=u16::MAX).collect();
     let drifting = drifting();
-    println!("{:<34} {:>8} {:>8} {:>7}", "ns a call", "Rust", "balehasp", "ratio");
+    println!("{:<34} {:>8} {:>8} {:>7}", "ns a call", if THEIRS.is_some() { "before" } else { "Rust" }, "balehasp", "ratio");
     functions("in order", &in_order);
     functions("random order", &random);
     functions("drifting", &drifting);
@@ -295,4 +374,7 @@ fn main() {
     operations("in order", &in_order);
     operations("random order", &random);
     operations("drifting", &drifting);
+    by_number("in order", &in_order);
+    by_number("random order", &random);
+    by_number("drifting", &drifting);
 }

@@ -43,9 +43,12 @@ static void operations(void)
 static void by_number(void)
 {
     uint16_t answer;
+    int8_t side;
     for (uint16_t f = 0; f <= 11; f++)
-        for (unsigned p = 0; p < 65536; p++)
+        for (unsigned p = 0; p < 65536; p++) {
             sink = balehasp_answer(f, (uint16_t)p, &answer);
+            sink = balehasp_sided(f, (uint16_t)p, &answer, &side);
+        }
 }
 
 static void batch(void)
@@ -98,7 +101,7 @@ int main(void)
         listing[25 + 2 * i] = (uint8_t)(input[i] >> 8);
     }
     size_t none = used(nothing);
-    printf("stack, at most, with the caller's own frame: the ten functions %zu, the operations and the turn %zu, answer %zu, "
+    printf("stack, at most, with the caller's own frame: the ten functions %zu, the operations and the turn %zu, answer and sided %zu, "
            "batch %zu, listing %zu, reals %zu bytes\n", used(functions) - none, used(operations) - none, used(by_number) - none,
            used(batch) - none, used(answer_listing) - none, used(reals) - none);
     if (refused)

@@ -1133,7 +1133,7 @@ static void sides(void)
         [BALEHASP_EXP] = "exp", [BALEHASP_EXP2] = "exp2", [BALEHASP_LN] = "ln", [BALEHASP_LOG2] = "log2",
         [BALEHASP_SIN_PI] = "sin_pi", [BALEHASP_COS_PI] = "cos_pi", [BALEHASP_TAN_PI] = "tan_pi",
         [BALEHASP_ATAN_PI] = "atan_pi", [BALEHASP_ASIN_PI] = "asin_pi", [BALEHASP_ACOS_PI] = "acos_pi"};
-    unsigned ways[WAYS] = {0};
+    unsigned ways[WAYS] = {0}, tiny = 0, large = 0;
     answer_room = guarded(1);
     side_room = guarded(1);
     sides_by_name();
@@ -1144,6 +1144,8 @@ static void sides(void)
             expect(right.answer == answers[f - 1][p], "the model of the rows differs from the Rust", f, p);
             expect(right.answer == entries[f]((uint16_t)p), "an answer with its side differs from the one without", f, p);
             lie[right.side + 1]++;
+            tiny += (right.answer == 0x0001 && right.side > 0) || (right.answer == 0xFFFF && right.side < 0);
+            large += (right.answer == 0x7FFF && right.side < 0) || (right.answer == 0x8001 && right.side > 0);
             sided_otherwise(f, (uint16_t)p, ways);
         }
         printf("%s: %u answers below the number that was rounded, %u on it, %u above it\n", names[f], lie[0], lie[1], lie[2]);
@@ -1153,6 +1155,7 @@ static void sides(void)
             sided_apart((uint16_t)f, (uint16_t)noise());
             sided_otherwise((uint16_t)f, (uint16_t)noise(), ways);
         }
+    printf("of the numbers that were rounded %u lie nearer to zero than 2^-28, and %u farther from it than 2^28\n", tiny, large);
     puts("655360 answers with their sides, by the entry and by the header: all as the exact model's, the answers as the Rust's");
     puts("65526 unknown function numbers, by both: refused, neither place written");
     printf("all of these again without the answer's place, the side's, both, at an odd address, one in the other: "
