@@ -8,7 +8,7 @@ use posit::Sided;
 pub fn sin_pi_sided(p: u16) -> Sided
     ensures { λ a. ⌜ MeetsSided (row p) a ⌝ }
 {
-    let negative = 0x8000 < p;
+    let negative = 0x7fff < p;
     let size = posit::signed(negative, p);
     if 31742 < std::num::wrapping_sub_u16(size, 1) {
         return posit::outright(if p == 0x8000 { 0x8000 } else { 0 }); // x is a whole number, zero among them, or NaR

@@ -1,9 +1,12 @@
 -- `circular::math::sin_pi::sin_pi_sided` meets its contract: row 5, whose cases are those of a row by sign.
 use borrow.Author.Needs.{needs}
 use mathlib.Core.Path.{_≡_, _∙_, ap}
+use mathlib.Core.Bool.{Bool, cond}
 use mathlib.Core.Logic.{⊎-elim}
 use native.Mathlib.Omega.{arith}
 use Rattle.posit.specs.Number.{size}
+use Rattle.posit.specs.Sides.{negatedSided}
+use Rattle.rows.proofs.Sizes.{sign-bit, size-by-bit}
 use Rattle.circular.specs.SinPi.{row}
 use Rattle.circular.proofs.Rows.Odd.{nar-itself, whole-or-zero, sign-back}
 use Rattle.circular.proofs.Rows.SinPi.{sine-odd}
@@ -15,6 +18,9 @@ signed-requires c κs = search needs
 
 wrapping-sub-u16-requires : tie.Need-wrapping-sub-u16-requires
 wrapping-sub-u16-requires c κs = search needs
+
+size-is : (s : tie.After-signed) → s .signed .result ≡ size 16 (s .before .args .p)
+size-is s = s .signed .ensures ∙ size-by-bit (s .before .args .p)
 
 outright-requires : tie.Need-outright-requires
 outright-requires c κs = search needs
@@ -29,7 +35,7 @@ returns c =
     ⊎-elim
     (λ t. rw (c .outright .ensures, t .1) (nar-itself sine-odd p (t .0 .taken)))
     (λ t. rw (c .outright .ensures, t .1)
-    (whole-or-zero sine-odd p (omega arith) (s .signed .result) (s .signed .ensures) (t .0 .left) (d .wrapping-sub-u16 .ensures)
+    (whole-or-zero sine-odd p (omega arith) (s .signed .result) (size-is s) (t .0 .left) (d .wrapping-sub-u16 .ensures)
     (omega arith) (w .if1 .taken)))
     (c .before .if2 .came)
 
@@ -50,9 +56,11 @@ returns-2 c =
     let s = d .before in
     let p = s .before .args .p in
     let wraps = d .wrapping-sub-u16 .ensures in
-    let number : p ≡ 0x8000 → ⊥ = λ e. (let q : s .signed .result ≡ 0x8000 = s .signed .ensures ∙ ap (size 16) e in omega arith) in
-    sign-back sine-odd p (omega arith) (s .signed .result) (s .signed .ensures) number (omega arith) (λ e. omega arith)
-    (x .units .result) (c .before .sine-of .result) (c .signed-sided .result) (x .units .ensures) (c .before .sine-of .ensures) (c .signed-sided .ensures)
+    let number : p ≡ 0x8000 → ⊥ = λ e. (let q : s .signed .result ≡ 0x8000 = size-is s ∙ ap (size 16) e in omega arith) in
+    let u = c .before .sine-of .result in
+    sign-back sine-odd p (omega arith) (s .signed .result) (size-is s) number (omega arith) (λ e. omega arith)
+    (x .units .result) u (c .signed-sided .result) (x .units .ensures) (c .before .sine-of .ensures)
+    (c .signed-sided .ensures ∙ ap (λ (b : Bool). cond b (negatedSided u) u) (sign-bit p number))
 
 pub sin-pi-sided-spec : {M : Type 1} → statement M
 sin-pi-sided-spec =
