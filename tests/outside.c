@@ -1138,17 +1138,19 @@ static void sides(void)
     side_room = guarded(1);
     sides_by_name();
     for (uint16_t f = 1; f <= FUNCTIONS; f++) {
-        unsigned lie[3] = {0, 0, 0};
+        unsigned lie[3] = {0, 0, 0}, outright = 0;
         for (unsigned p = 0; p < PATTERNS; p++) {
             Sided right = sided_apart(f, (uint16_t)p);
             expect(right.answer == answers[f - 1][p], "the model of the rows differs from the Rust", f, p);
             expect(right.answer == entries[f]((uint16_t)p), "an answer with its side differs from the one without", f, p);
             lie[right.side + 1]++;
+            outright += model_row(f, (uint16_t)p).outright;
             tiny += (right.answer == 0x0001 && right.side > 0) || (right.answer == 0xFFFF && right.side < 0);
             large += (right.answer == 0x7FFF && right.side < 0) || (right.answer == 0x8001 && right.side > 0);
             sided_otherwise(f, (uint16_t)p, ways);
         }
-        printf("%s: %u answers below the number that was rounded, %u on it, %u above it\n", names[f], lie[0], lie[1], lie[2]);
+        printf("%s: %u answers below the number that was rounded, %u on it, %u above it; of those on it %u given outright, %u rounded\n",
+               names[f], lie[0], lie[1], lie[2], outright, lie[1] - outright);
     }
     for (unsigned f = 0; f < 65536; f++)
         if (f < 1 || f > FUNCTIONS) {

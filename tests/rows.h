@@ -351,11 +351,13 @@ static inline Sided row_answer(Row row)
 }
 
 /* Of the function with that number, 1 to 10. */
-static inline Sided model_sided(uint16_t function, uint16_t p)
+static inline Row model_row(uint16_t function, uint16_t p)
 {
     static Row (*const rows[])(uint16_t) = {
         row_exp, row_exp2, row_ln, row_log2, row_sin_pi, row_cos_pi, row_tan_pi, row_atan_pi, row_asin_pi, row_acos_pi};
-    return row_answer(rows[function - 1](p));
+    return rows[function - 1](p);
 }
+
+static inline Sided model_sided(uint16_t function, uint16_t p) { return row_answer(model_row(function, p)); }
 
 #endif
