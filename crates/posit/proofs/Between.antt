@@ -110,7 +110,8 @@ module _ (es r t b q rest Z : ℕ) (l : Layout r t b) (h : q < 2 ^ t)
         ∙ compare-is own (floated 63 Z) Ordering·gt
         (more
         (lt-of-lt-of-le below
-        (⊎-elim (λ e. le-of-eq (ap (λ (p : ℕ). magnitude es 17 p * 2 ^ 63) e)) (λ k. le-of-lt (grown (suc v) (2 * u) (omega arith) k (omega arith))) (eq-or-lt-of-le h))))
+        (⊎-elim (λ e. le-of-eq (ap (λ (p : ℕ). magnitude es 17 p * 2 ^ 63) e))
+        (λ k. le-of-lt (grown (suc v) (2 * u) (omega arith) k (omega arith))) (eq-or-lt-of-le h))))
 
     pub stands-below : 2 * u ≤ v → (2 * u ≡ v → 0 < rest) → stands es 16 number u ≡ Ordering·lt
     stands-below h some =

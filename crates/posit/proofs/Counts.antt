@@ -46,7 +46,8 @@ longest-run : run 1 15 0x7fff ≡ 15
 unfolding run
 longest-run = refl
 
-pub ones-counted : (q j : ℕ) → 2 ^ 14 ≤ q → q < 2 ^ 15 → 2 ^ j + q * 2 ^ 50 < 2 ^ 65 → 2 ^ 65 < 2 ^ suc j + q * 2 ^ 50 + 2 ^ 49 → (run 1 15 q + j ≡ 64) × (49 ≤ j)
+pub ones-counted : (q j : ℕ) → 2 ^ 14 ≤ q → q < 2 ^ 15 → 2 ^ j + q * 2 ^ 50 < 2 ^ 65 → 2 ^ 65 < 2 ^ suc j + q * 2 ^ 50 + 2 ^ 49
+    → (run 1 15 q + j ≡ 64) × (49 ≤ j)
 ones-counted q j large small from to = go (decLt j 49) (decLt j 50) (decLt 63 j)
   where
     go : Dec (j < 49) → Dec (j < 50) → Dec (63 < j) → (run 1 15 q + j ≡ 64) × (49 ≤ j)

@@ -95,7 +95,8 @@ module _ (m z k : ℕ) (e : ℤ) (some : 0 < m) (o : Offset e k) where
 
       past : 165 + z < k → 2 ^ 58 * D < m * U * 2 ^ 30
       past l =
-          let t : 2 ^ 195 * D * 2 ^ 63 < 2 ^ 196 * D * 2 ^ 63 = mul-lt-mul-of-pos-right (mul-lt-mul-of-pos-right {m = 2 ^ 195} (lit< tt) (down-some e)) (pow-pos 63) in
+          let t : 2 ^ 195 * D * 2 ^ 63 < 2 ^ 196 * D * 2 ^ 63 =
+          mul-lt-mul-of-pos-right (mul-lt-mul-of-pos-right {m = 2 ^ 195} (lit< tt) (down-some e)) (pow-pos 63) in
           lt-of-mul-lt-mul-right (2 ^ 200)
           (lt-of-le-of-lt (le-of-eq (sym at-largest))
           (lt-of-lt-of-le t (le-trans (mul-le-mul-left (2 ^ 196 * D) top) (from 166 (omega arith) (omega arith)))))

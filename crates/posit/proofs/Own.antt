@@ -39,7 +39,9 @@ module _ (es n u : ℕ) (few : 3 ≤ n) (l : 1 ≤ u) (h : u ≤ largest n) wher
       record {
         least = l;
         most = h;
-        leaves = compare-is (magnitude es n u * 2 ^ U) (magnitude es n u * 1 * 2 ^ U) Ordering·eq (same (ap (λ (x : ℕ). x * 2 ^ U) (sym (mul-one (magnitude es n u)))));
+        leaves =
+            compare-is (magnitude es n u * 2 ^ U) (magnitude es n u * 1 * 2 ^ U) Ordering·eq
+            (same (ap (λ (x : ℕ). x * 2 ^ U) (sym (mul-one (magnitude es n u)))));
       }
 
   pub own-positive : Rounded es n cut u

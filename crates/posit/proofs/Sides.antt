@@ -86,7 +86,8 @@ module _ (es n : ℕ) (few : 3 ≤ n) (c : Cut) (w : OneWay c) (sc : Scales c) w
         (λ (h : 1 < u).
         let l : dividing es n (u - 1) < M = subst (λ (x : ℕ). dividing es n (u - 1) < magnitude es n x * 2 ^ (2 ^ es))
         (let e : suc (u - 1) ≡ u = omega arith in e) (above-dividing es n (u - 1) few (omega arith) (omega arith)) in
-        ⊎-elim (λ g. absurd (not-above (sym finely ∙ g))) (λ g. inr (subst⁻¹ (λ (x : Ordering). Reached x u) g tt)) (w (dividing es n (u - 1)) M (unit es (n + 1)) l))
+        ⊎-elim (λ g. absurd (not-above (sym finely ∙ g))) (λ g. inr (subst⁻¹ (λ (x : Ordering). Reached x u) g tt))
+        (w (dividing es n (u - 1)) M (unit es (n + 1)) l))
         (eq-or-lt-of-le lo)
 
     no-larger : (stands es n c u ≡ Ordering·lt → ⊥) → (u ≡ largest n) ⊎ Enough (divides es n c u) u

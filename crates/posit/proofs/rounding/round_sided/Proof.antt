@@ -12,7 +12,8 @@ use mir.Val.{toZ, ofZ, SFits}
 use mir.Facts.{toZ-ofZ, toZ-pos, fits-of-lt}
 use Rattle.posit.specs.Rounding.{ratio, plus, dyadic}
 use Rattle.posit.specs.Sides.{RoundsSided}
-use Rattle.posit.proofs.Apart.{Apart, first-fits, apart, apart-fits, from-tiny, to-huge, is-tiny, is-huge, minus, from-zero, to-29, from-29, power-few, raised}
+use Rattle.posit.proofs.Apart.{Apart, first-fits, apart, apart-fits, from-tiny, to-huge, is-tiny, is-huge}
+use Rattle.posit.proofs.Apart.{minus, from-zero, to-29, from-29, power-few, raised}
 use Rattle.posit.proofs.Tops.{Top, top, short-below}
 use Rattle.posit.proofs.Far.{Offset, tiny, huge-below, huge-on, middle}
 use Rattle.posit.proofs.rounding.round_sided.Statement.{statement}
