@@ -67,9 +67,10 @@ static void answer_listing(void)
 static void reals(void)
 {
     double lower, upper;
+    uint8_t edges;
     for (unsigned p = 0; p < 65536; p++) {
         sink = balehasp_to_f64((uint16_t)p, &lower);
-        sink = balehasp_span((uint16_t)p, &lower, &upper);
+        sink = balehasp_span((uint16_t)p, &lower, &upper, &edges);
         sink = balehasp_from_f64(upper);
     }
 }

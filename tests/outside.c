@@ -345,8 +345,6 @@ static void results_in_the_buffers(void)
     memcpy(patterns, in, sizeof in);
     expect(balehasp_batch(BALEHASP_LN, patterns, 2, patterns, 2, 0, 2, word, NULL) == 0, "a result in the output", 0, 0);
     expect(memcmp(word, &two, sizeof two) == 0, "the next place comes after the answers", 0, 0);
-    double edges[2];
-    expect(balehasp_span(0x4000, edges, edges) && edges[0] > 1, "the upper edge comes last", 0, 0);
 }
 
 static uint16_t some_function(void)
@@ -954,7 +952,7 @@ static void differences(void)
            rounds, found, walks, refusals[1], refusals[4], refusals[5], refusals[6], refusals[7], refusals[8]);
 }
 
-/* ---- reals and spans */
+/* ---- reals */
 
 /* The number of the posit p of n bits with one exponent bit, which is neither zero nor NaR. */
 static double number_of(uint32_t p, int n)
@@ -988,39 +986,214 @@ static bool same_bits(double a, double b) { return memcmp(&a, &b, sizeof a) == 0
 
 static void one_real(double x) { expect(balehasp_from_f64(x) == rounded(x), "from_f64", rounded(x), balehasp_from_f64(x)); }
 
+/* A random f64, most often within the posits' range. */
+static double some_real(void)
+{
+    uint64_t bits = noise();
+    if (below(4))
+        bits = (bits & 0x800FFFFFFFFFFFFFu) | (1023 - 32 + below(64)) << 52;
+    double x;
+    memcpy(&x, &bits, sizeof x);
+    return x;
+}
+
 static void reals(void)
 {
     for (uint32_t p = 0; p < PATTERNS; p++) {
-        double poison = ldexp((double)noise(), -70), real = poison, lower = poison, upper = poison;
-        bool is_real = balehasp_to_f64((uint16_t)p, &real), has_span = balehasp_span((uint16_t)p, &lower, &upper);
+        double poison = ldexp((double)noise(), -70), real = poison;
+        bool is_real = balehasp_to_f64((uint16_t)p, &real);
         if (p == BALEHASP_NAR) {
             expect(!is_real && same_bits(real, poison), "NaR is no real", p, 0);
-            expect(!has_span && same_bits(lower, poison) && same_bits(upper, poison), "NaR has no span", p, 0);
             continue;
         }
         expect(is_real && same_bits(real, p ? number_of(p, 16) : 0.0), "to_f64", p, 0);
-        expect(has_span && same_bits(lower, number_of((2 * p + 0x1FFFF) & 0x1FFFF, 17)) && same_bits(upper, number_of(2 * p + 1, 17)), "the span", p, 0);
-        double from[] = {real, lower, upper};
-        for (int i = 0; i < 3; i++) {
-            one_real(from[i]);
-            one_real(nextafter(from[i], INFINITY));
-            one_real(nextafter(from[i], -INFINITY));
-        }
+        one_real(real);
+        one_real(nextafter(real, INFINITY));
+        one_real(nextafter(real, -INFINITY));
     }
     expect(balehasp_to_f64(0x4000, NULL) && !balehasp_to_f64(BALEHASP_NAR, NULL), "no place for the real", 0, 0);
-    expect(balehasp_span(0x4000, NULL, NULL) && !balehasp_span(BALEHASP_NAR, NULL, NULL), "no place for the edges", 0, 0);
     double ends[] = {0.0, -0.0, INFINITY, -INFINITY, NAN, -NAN, 5e-324, -5e-324, 1.7976931348623157e308, -1.7976931348623157e308};
     for (size_t i = 0; i < sizeof ends / sizeof *ends; i++)
         one_real(ends[i]);
-    for (unsigned i = 0; i < rounds; i++) {
-        uint64_t bits = noise();
-        if (below(4)) /* most of them within the posits' range */
-            bits = (bits & 0x800FFFFFFFFFFFFFu) | (1023 - 32 + below(64)) << 52;
-        double x;
-        memcpy(&x, &bits, sizeof x);
-        one_real(x);
+    for (unsigned i = 0; i < rounds; i++)
+        one_real(some_real());
+    printf("65536 patterns to f64, and %u numbers from f64: as the rule's\n", 65535 * 3 + 10 + rounds);
+}
+
+/* ---- spans */
+
+typedef bool SpanCall(uint16_t, double *, double *, uint8_t *);
+
+/* The archive's own entry, whose name the header gives to the function before it. */
+#undef balehasp_span
+static SpanCall *const span_entry = balehasp_span;
+#define balehasp_span balehasp_span_checked
+
+typedef struct {
+    double lower, upper;
+    uint8_t edges;
+} Span;
+
+/* The span of p, which is not NaR: what the model rounds to p lies between the dividing numbers of its magnitude u, and takes
+ * one in where the model rounds that to p. There is none above the largest, and none but zero below the smallest. */
+static Span model_span(uint16_t p)
+{
+    bool negative = p > BALEHASP_NAR, ends = true;
+    uint32_t u = negative ? 0x10000u - p : p;
+    double inner = u > 1 ? number_of(2 * u - 1, 17) : 0.0, outer = 0.0;
+    if (u == MODEL_LARGEST)
+        ends = false;
+    else if (u > 0)
+        outer = number_of(2 * u + 1, 17);
+    if (negative) {
+        inner = inner > 0 ? -inner : 0.0;
+        outer = outer > 0 ? -outer : 0.0;
     }
-    printf("65536 patterns to f64 and their spans, and %u numbers from f64: as the rule's\n", 65535 * 9 + 10 + rounds);
+    unsigned in = 1 + (rounded(inner) == p ? 2 : 0), out = ends ? 1 + (rounded(outer) == p ? 2 : 0) : 0;
+    return negative ? (Span){outer, inner, (uint8_t)(out + 4 * in)} : (Span){inner, outer, (uint8_t)(in + 4 * out)};
+}
+
+/* Whether x lies in a span, as the header says it. */
+static bool lies_in(Span s, double x)
+{
+    bool from = !(s.edges & BALEHASP_LOWER_EXISTS) || s.lower < x || (s.lower == x && (s.edges & BALEHASP_LOWER_INCLUDED));
+    bool to = !(s.edges & BALEHASP_UPPER_EXISTS) || x < s.upper || (s.upper == x && (s.edges & BALEHASP_UPPER_INCLUDED));
+    return isfinite(x) && from && to;
+}
+
+enum { LOWER, UPPER, EDGES, SPAN_PLACES };
+static const size_t span_sizes[SPAN_PLACES] = {sizeof(double), sizeof(double), sizeof(uint8_t)};
+static Guarded span_rooms[SPAN_PLACES];
+
+/* One call into these places, of which the header's function takes any, one in another too. */
+static void one_span(SpanCall *call, uint16_t p, uint8_t *const places[SPAN_PLACES])
+{
+    bool has_span = p != BALEHASP_NAR;
+    Span wants = has_span ? model_span(p) : (Span){0, 0, 0};
+    const void *const results[SPAN_PLACES] = {&wants.lower, &wants.upper, &wants.edges};
+    for (int i = 0; i < SPAN_PLACES; i++)
+        keep(&span_rooms[i]);
+    for (int i = 0; has_span && i < SPAN_PLACES; i++)
+        for (int k = 0; places[i] && k < SPAN_PLACES; k++) {
+            Guarded *room = &span_rooms[k];
+            if (room->bytes <= places[i] && places[i] < room->bytes + room->size)
+                memcpy(room->before + (places[i] - room->bytes), results[i], span_sizes[i]);
+        }
+    expect(call(p, (double *)(void *)places[LOWER], (double *)(void *)places[UPPER], places[EDGES]) == has_span, "whether there is a span", p, 0);
+    for (int i = 0; i < SPAN_PLACES; i++)
+        expect_same(&span_rooms[i], "the span", p, (uint64_t)i);
+}
+
+static void span_places(uint8_t *places[SPAN_PLACES])
+{
+    for (int i = 0; i < SPAN_PLACES; i++)
+        places[i] = place(&span_rooms[i], span_sizes[i], below(2));
+}
+
+/* The header's function with places left out, at odd addresses, or in one another. */
+static void span_otherwise(uint16_t p)
+{
+    uint8_t *places[SPAN_PLACES];
+    span_places(places);
+    switch (below(4)) {
+    case 0: places[below(SPAN_PLACES)] = NULL; break;
+    case 1: places[LOWER] = places[UPPER] = places[EDGES] = NULL; break;
+    case 2: places[LOWER] += places[LOWER] == span_rooms[LOWER].bytes ? 1 : -1; break;
+    case 3: places[EDGES] = places[below(2)] + below(sizeof(double)); break;
+    }
+    if (below(4) == 0)
+        places[UPPER] = places[LOWER];
+    one_span(balehasp_span, p, places);
+}
+
+static Span span_found(uint16_t p)
+{
+    Span s = {0, 0, 0};
+    expect(balehasp_span(p, &s.lower, &s.upper, &s.edges), "a span", p, 0);
+    return s;
+}
+
+/* Whether x lies in the span s of p, which is whether it converts to p. */
+static bool found_in(Span s, uint16_t p, double x)
+{
+    bool lies = lies_in(s, x);
+    expect(lies == (balehasp_from_f64(x) == p), "what lies in a span converts to its pattern", p, lies);
+    return lies;
+}
+
+/* Numbers with their pattern and its span written out, so that what P5 and the header say of the ends holds of the model too. */
+static void spans_by_name(void)
+{
+    const uint8_t all = BALEHASP_LOWER_EXISTS | BALEHASP_LOWER_INCLUDED | BALEHASP_UPPER_EXISTS | BALEHASP_UPPER_INCLUDED;
+    const uint8_t open = BALEHASP_LOWER_EXISTS | BALEHASP_UPPER_EXISTS;
+    const struct {
+        double x;
+        uint16_t pattern;
+        Span span;
+    } cases[] = {
+        {0.0, 0x0000, {0.0, 0.0, all}},
+        {-0.0, 0x0000, {0.0, 0.0, all}},
+        {ldexp(1, -40), 0x0001, {0.0, ldexp(1, -27), open}},
+        {-ldexp(1, -40), 0xFFFF, {-ldexp(1, -27), 0.0, open}},
+        {5e-324, 0x0001, {0.0, ldexp(1, -27), open}},
+        {-5e-324, 0xFFFF, {-ldexp(1, -27), 0.0, open}},
+        {ldexp(1, -27), 0x0002, {ldexp(1, -27), ldexp(3, -27), all}},
+        {ldexp(1, 27), 0x7FFE, {ldexp(3, 24), ldexp(1, 27), all}},
+        {ldexp(1, 40), 0x7FFF, {ldexp(1, 27), 0.0, BALEHASP_LOWER_EXISTS}},
+        {1.7976931348623157e308, 0x7FFF, {ldexp(1, 27), 0.0, BALEHASP_LOWER_EXISTS}},
+        {-1.7976931348623157e308, 0x8001, {0.0, -ldexp(1, 27), BALEHASP_UPPER_EXISTS}},
+    };
+    const double none[] = {INFINITY, -INFINITY, NAN, -NAN};
+    for (size_t i = 0; i < sizeof cases / sizeof *cases; i++) {
+        Span s = span_found(cases[i].pattern), wants = cases[i].span;
+        expect(same_bits(s.lower, wants.lower) && same_bits(s.upper, wants.upper) && s.edges == wants.edges, "a span by name", i, s.edges);
+        for (uint32_t p = 0; p < PATTERNS; p++)
+            if (p != BALEHASP_NAR)
+                expect(found_in(span_found((uint16_t)p), (uint16_t)p, cases[i].x) == (p == cases[i].pattern), "one span", i, p);
+    }
+    for (size_t i = 0; i < sizeof none / sizeof *none; i++)
+        for (uint32_t p = 0; p < PATTERNS; p++)
+            if (p != BALEHASP_NAR)
+                expect(!found_in(span_found((uint16_t)p), (uint16_t)p, none[i]), "no span", i, p);
+    printf("%zu numbers by name in one span of 65535 each, and %zu that are none in no span\n", sizeof cases / sizeof *cases, sizeof none / sizeof *none);
+}
+
+static void spans(void)
+{
+    unsigned inside = 0, outside = 0;
+    for (int i = 0; i < SPAN_PLACES; i++)
+        span_rooms[i] = guarded(1);
+    for (uint32_t p = 0; p < PATTERNS; p++) {
+        uint8_t *places[SPAN_PLACES];
+        span_places(places);
+        one_span(span_entry, (uint16_t)p, places);
+        span_places(places);
+        one_span(balehasp_span, (uint16_t)p, places);
+        span_otherwise((uint16_t)p);
+        if (p == BALEHASP_NAR)
+            continue;
+        Span s = span_found((uint16_t)p);
+        double ends[] = {s.lower, s.upper};
+        for (int i = 0; i < 2; i++) {
+            double about[] = {ends[i], nextafter(ends[i], INFINITY), nextafter(ends[i], -INFINITY)};
+            for (int k = 0; k < 3; k++) {
+                one_real(about[k]);
+                found_in(s, (uint16_t)p, about[k]) ? inside++ : outside++;
+            }
+        }
+    }
+    printf("65536 patterns' spans by entry and header, and by the header with any places: as the model's\n");
+    printf("%u f64s that are an edge or next to one: %u inside and %u outside, as they convert\n", inside + outside, inside, outside);
+    spans_by_name();
+    for (unsigned i = 0; i < rounds; i++) {
+        double x = some_real();
+        uint16_t p = balehasp_from_f64(x), other = (uint16_t)noise();
+        if (p != BALEHASP_NAR)
+            expect(found_in(span_found(p), p, x), "a span of its own", p, 0);
+        if (other != BALEHASP_NAR)
+            found_in(span_found(other), other, x);
+    }
+    printf("%u random f64s: in the span of what they convert to, and in no other tried\n", rounds);
 }
 
 /* ---- the answers with their sides */
@@ -1197,6 +1370,7 @@ int main(int words, char **word)
     listings();
     differences();
     reals();
+    spans();
     sides();
     puts("outside: all passed");
     return 0;

@@ -22,9 +22,9 @@
 #include <string.h>
 
 #define BALEHASP_VERSION_MAJOR 0
-#define BALEHASP_VERSION_MINOR 5
+#define BALEHASP_VERSION_MINOR 6
 #define BALEHASP_VERSION_PATCH 0
-#define BALEHASP_VERSION "0.5.0"
+#define BALEHASP_VERSION "0.6.0"
 
 /* Has the compiler warn where a result is dropped. */
 #if (defined __cplusplus && __cplusplus >= 201703L) || (defined __STDC_VERSION__ && __STDC_VERSION__ > 201710L)
@@ -181,13 +181,24 @@ BALEHASP_MUST_USE bool balehasp_to_f64(uint16_t p, double *real);
 /* The posit that x rounds to. A NaN and both infinities give NaR, both zeros 0, and no other number rounds to 0 or NaR. */
 BALEHASP_MUST_USE uint16_t balehasp_from_f64(double x);
 
-/* Whether p has a span; if so, writes its edges: the numbers of the posits of 17 bits next below and next above p. NaR has
- * none: then the result is false, and both places stay as they were, stale like *real.
- * The numbers that round to p are those between its edges, and the edges where p is even; but not at five patterns. All
- * numbers from the outer edge of 0x7FFF or 0x8001 outward, and all between 0 and the inner edge of 0x0001 or 0xFFFF, that edge
- * too, round to that pattern as well: 2^-40 rounds to 0x0001 and lies outside its span. In the span of 0 only 0 itself rounds
- * to 0. */
-BALEHASP_MUST_USE bool balehasp_span(uint16_t p, double *lower, double *upper);
+/* Bits of *edges in balehasp_span. An edge that does not exist is not included. */
+enum {
+    BALEHASP_LOWER_EXISTS = 1,
+    BALEHASP_LOWER_INCLUDED = 2,
+    BALEHASP_UPPER_EXISTS = 4,
+    BALEHASP_UPPER_INCLUDED = 8
+};
+
+/* Whether p has a span; if so, writes the numbers of its edges to *lower and *upper and what they are to *edges. NaR has none:
+ * then the result is false, and all places stay as they were, stale like *real.
+ * A double x converts to p, balehasp_from_f64(x) == p, exactly when it lies in p's span: it is finite; above *lower, or on it
+ * where that edge is included, or that edge does not exist; and below *upper likewise. So the spans of two patterns have no
+ * double in common, and every finite one lies in one of them.
+ * The edges are the numbers of the posits of 17 bits next below and next above p, included where p is even and not where it is
+ * odd, but at the ends of the range. No number but zero rounds to 0: its span is zero alone, both edges 0.0 and included. That
+ * of 0x0001 starts at 0.0, which is not included, and that of 0x7FFF has no upper edge. 0xFFFF and 0x8001 mirror these two.
+ * A missing edge and an edge at zero hold +0.0, so look at *edges first: *upper of 0x7FFF is no bound. */
+BALEHASP_MUST_USE bool balehasp_span(uint16_t p, double *lower, double *upper, uint8_t *edges);
 
 /* ---- The calls with pointers as C makes them.
  *
@@ -343,13 +354,15 @@ BALEHASP_MUST_USE static inline bool balehasp_to_f64_checked(uint16_t p, double 
     return is_real;
 }
 
-BALEHASP_MUST_USE static inline bool balehasp_span_checked(uint16_t p, double *lower, double *upper)
+BALEHASP_MUST_USE static inline bool balehasp_span_checked(uint16_t p, double *lower, double *upper, uint8_t *edges)
 {
     double below = 0, above = 0;
-    bool has_span = balehasp_span(p, &below, &above);
+    uint8_t bits = 0;
+    bool has_span = balehasp_span(p, &below, &above, &bits);
     if (has_span) {
         balehasp_give(lower, &below, sizeof below);
         balehasp_give(upper, &above, sizeof above);
+        balehasp_give(edges, &bits, sizeof bits);
     }
     return has_span;
 }

@@ -22,7 +22,7 @@
 #![no_std]
 #![warn(missing_docs)]
 
-use core::{fmt, iter};
+use core::{fmt, iter, ops::Bound};
 
 /// The version, which is also the header's.
 ///
@@ -259,7 +259,7 @@ extern "C" {
     ) -> u16;
     fn balehasp_to_f64(p: u16, real: *mut f64) -> bool;
     fn balehasp_from_f64(x: f64) -> u16;
-    fn balehasp_span(p: u16, lower: *mut f64, upper: *mut f64) -> bool;
+    fn balehasp_span(p: u16, lower: *mut f64, upper: *mut f64, edges: *mut u8) -> bool;
 }
 
 /// Minus p. NaR and zero are their own.
@@ -640,42 +640,72 @@ pub fn from_f64(x: f64) -> u16 {
     unsafe { balehasp_from_f64(x) }
 }
 
-/// A pattern's span.
+/// A pattern's span: the numbers that round to it. An edge that does not exist has no number here.
 ///
 /// ```
-/// assert_eq!(balehasp::span(balehasp::NAR), balehasp::Span::NaR);
+/// use std::ops::Bound;
+/// let span = balehasp::span(0x7FFF).unwrap();
+/// assert_eq!(span.lower, Bound::Excluded(2f64.powi(27)));
+/// assert_eq!(span.upper, Bound::Unbounded);
 /// ```
 #[derive(Clone, Copy, Debug, PartialEq)]
-pub enum Span {
-    /// The numbers of the posits of 17 bits next below and next above the pattern.
-    Edges {
-        /// The lower edge.
-        lower: f64,
-        /// The upper edge.
-        upper: f64,
-    },
-    /// NaR has no span.
-    NaR,
+pub struct Span {
+    /// The lower edge.
+    pub lower: Bound<f64>,
+    /// The upper edge.
+    pub upper: Bound<f64>,
 }
 
-/// p's span. The numbers that round to p are those between its edges, and the edges where p is even; but not at five patterns.
-/// All numbers from the outer edge of `0x7FFF` or `0x8001` outward, and all between 0 and the inner edge of `0x0001` or
-/// `0xFFFF`, that edge too, round to that pattern as well. In the span of 0 only 0 itself rounds to 0.
+impl Span {
+    /// Whether x lies in the span: it is finite, and between the edges or on one that is included. Both zeros are zero.
+    ///
+    /// ```
+    /// let zero = balehasp::span(0).unwrap();
+    /// assert!(zero.contains(0.0) && zero.contains(-0.0) && !zero.contains(5e-324));
+    /// assert!(!balehasp::span(0x7FFF).unwrap().contains(f64::INFINITY));
+    /// ```
+    #[must_use]
+    pub fn contains(&self, x: f64) -> bool {
+        let above = match self.lower {
+            Bound::Included(lower) => lower <= x,
+            Bound::Excluded(lower) => lower < x,
+            Bound::Unbounded => true,
+        };
+        let below = match self.upper {
+            Bound::Included(upper) => x <= upper,
+            Bound::Excluded(upper) => x < upper,
+            Bound::Unbounded => true,
+        };
+        x.is_finite() && above && below
+    }
+}
+
+/// p's span, `None` for NaR, which has none. `from_f64` of x is p exactly when p's span contains x. So the spans of two patterns
+/// have no `f64` in common, and every finite one lies in one of them.
+///
+/// The edges are the numbers of the posits of 17 bits next below and next above p, included where p is even and not where it is
+/// odd, but at the ends of the range. No number but zero rounds to 0, so its span is zero alone; that of `0x0001` starts at 0,
+/// which is not included; that of `0x7FFF` has no upper edge; and `0xFFFF` and `0x8001` mirror these two.
 ///
 /// ```
-/// use balehasp::{from_f64, span, Span};
-/// assert_eq!(span(0x4000), Span::Edges { lower: 1.0 - 1.0 / 16384.0, upper: 1.0 + 1.0 / 8192.0 });
+/// use balehasp::{from_f64, span, Span, NAR};
+/// use std::ops::Bound;
+/// let (lower, upper) = (1.0 - 1.0 / 16384.0, 1.0 + 1.0 / 8192.0);
+/// assert_eq!(span(0x4000), Some(Span { lower: Bound::Included(lower), upper: Bound::Included(upper) }));
 /// let tiny = 2f64.powi(-40);
 /// assert_eq!(from_f64(tiny), 0x0001);
-/// assert!(matches!(span(0x0001), Span::Edges { lower, .. } if tiny < lower));
+/// assert!(span(0x0001).unwrap().contains(tiny));
+/// assert_eq!(span(NAR), None);
 /// ```
 #[must_use]
-pub fn span(p: u16) -> Span {
-    let (mut lower, mut upper) = (0.0, 0.0);
+pub fn span(p: u16) -> Option<Span> {
+    let (mut lower, mut upper, mut edges) = (0.0, 0.0, 0);
+    let edge = |number, bits| match bits & 3 {
+        0 => Bound::Unbounded,
+        1 => Bound::Excluded(number),
+        _ => Bound::Included(number),
+    };
     // SAFETY: the places live through the call.
-    if unsafe { balehasp_span(p, &mut lower, &mut upper) } {
-        Span::Edges { lower, upper }
-    } else {
-        Span::NaR
-    }
+    unsafe { balehasp_span(p, &mut lower, &mut upper, &mut edges) }
+        .then(|| Span { lower: edge(lower, edges), upper: edge(upper, edges >> 2) })
 }

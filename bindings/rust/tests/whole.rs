@@ -8,6 +8,7 @@ use balehasp::{
 };
 use rows::{row, Row};
 use std::cmp::Ordering;
+use std::ops::Bound;
 
 mod rows;
 
@@ -565,25 +566,16 @@ fn all_655360_sides() {
 }
 
 #[test]
-fn conversions_and_spans() {
+fn conversions() {
     let dividing: Vec<f64> = (1..0x7FFF).map(|u| number_of(2 * u + 1, 17)).collect();
     let check = |x: f64| assert_eq!(from_f64(x), rounded(&dividing, x), "{x:e}");
     for p in (0..=u16::MAX).filter(|&p| p != NAR) {
-        let wide = u32::from(p);
-        let real = if p == 0 { 0.0 } else { number_of(wide, 16) };
+        let real = if p == 0 { 0.0 } else { number_of(u32::from(p), 16) };
         let Real::Real(found) = to_f64(p) else { panic!("{p:#06x} is a real number") };
         assert_eq!(found.to_bits(), real.to_bits(), "{p:#06x}");
-        let (lower, upper) = (number_of((2 * wide).wrapping_sub(1) & 0x1FFFF, 17), number_of(2 * wide + 1, 17));
-        assert_eq!(span(p), Span::Edges { lower, upper }, "{p:#06x}");
-        assert!(lower < real && real < upper);
-        for bits in [real, lower, upper].map(f64::to_bits) {
-            for near in [bits.wrapping_sub(1), bits, bits.wrapping_add(1)] {
-                check(f64::from_bits(near));
-            }
-        }
+        near(real).into_iter().for_each(check);
     }
     assert_eq!(to_f64(NAR), Real::NaR);
-    assert_eq!(span(NAR), Span::NaR);
     for x in [0.0, -0.0, f64::NAN, f64::INFINITY, f64::NEG_INFINITY, f64::MAX, f64::MIN, 5e-324, -5e-324] {
         check(x);
     }
@@ -592,5 +584,64 @@ fn conversions_and_spans() {
         check(f64::from_bits(noise.next()));
         check((noise.next() as f64 - 2f64.powi(63)) * 2f64.powi(noise.below(60) as i32 - 90));
     }
-    println!("65536 patterns to f64 and their spans, and {} numbers from f64: as the rule's", 65535 * 9 + 9 + 2 * ROUNDS);
+    println!("65536 patterns to f64, and {} numbers from f64: as the rule's", 65535 * 3 + 9 + 2 * ROUNDS);
+}
+
+/// x with the `f64`s next to its bits.
+fn near(x: f64) -> [f64; 3] {
+    [x.to_bits().wrapping_sub(1), x.to_bits(), x.to_bits() + 1].map(f64::from_bits)
+}
+
+/// The span of p, which is not NaR: towards a neighbour as far as the posit of 17 bits between the two, towards zero as far as
+/// that, and towards NaR without end; with the number there where the model rounds it to p.
+fn model_span(dividing: &[f64], p: u16) -> Span {
+    let edge = |neighbour: u16, between: u32| {
+        let number = if p == 0 || neighbour == 0 { 0.0 } else { number_of(between, 17) };
+        match rounded(dividing, number) == p {
+            _ if neighbour == NAR => Bound::Unbounded,
+            true => Bound::Included(number),
+            false => Bound::Excluded(number),
+        }
+    };
+    let wide = 2 * u32::from(p);
+    Span {
+        lower: edge(p.wrapping_sub(1), wide.wrapping_sub(1) & 0x1FFFF),
+        upper: edge(p.wrapping_add(1), wide + 1),
+    }
+}
+
+#[test]
+fn spans() {
+    let dividing: Vec<f64> = (1..0x7FFF).map(|u| number_of(2 * u + 1, 17)).collect();
+    let (mut inside, mut outside) = (0, 0);
+    for p in (0..=u16::MAX).filter(|&p| p != NAR) {
+        let found = span(p).unwrap();
+        assert_eq!(found, model_span(&dividing, p), "{p:#06x}");
+        for x in [found.lower, found.upper].into_iter().flat_map(|edge| match edge {
+            Bound::Included(x) | Bound::Excluded(x) => {
+                assert!(x != 0.0 || x.is_sign_positive(), "{p:#06x}");
+                near(x)
+            }
+            Bound::Unbounded => [f64::MAX, f64::MIN, f64::INFINITY],
+        }) {
+            assert_eq!(found.contains(x), from_f64(x) == p, "{p:#06x}, {x:e}");
+            *(if found.contains(x) { &mut inside } else { &mut outside }) += 1;
+        }
+    }
+    assert_eq!(span(NAR), None);
+    let tiny = 2f64.powi(-40);
+    for (x, p) in [(tiny, 0x0001), (-tiny, 0xFFFF), (5e-324, 0x0001), (1.0 / tiny, 0x7FFF), (f64::MAX, 0x7FFF), (f64::MIN, 0x8001), (-0.0, 0)] {
+        let all: Vec<u16> = (0..=u16::MAX).filter(|&p| span(p).is_some_and(|span| span.contains(x))).collect();
+        assert_eq!(all, [p], "{x:e}");
+    }
+    for x in [f64::NAN, f64::INFINITY, f64::NEG_INFINITY] {
+        assert!((0..=u16::MAX).filter_map(span).all(|span| !span.contains(x)));
+    }
+    let mut noise = Noise(5);
+    for _ in 0..ROUNDS {
+        let x = f64::from_bits(noise.next());
+        let p = from_f64(x);
+        assert_eq!(span(p).is_some_and(|span| span.contains(x)), x.is_finite(), "{x:e}");
+    }
+    println!("65535 spans as the model's; {inside} f64s about their edges inside and {outside} outside, as they convert; {ROUNDS} random f64s each in its own");
 }

@@ -11,7 +11,7 @@ use Rattle.real.specs.declared.spans.SpanAnswer.{SpanAnswer}
 use Rattle.real.specs.declared.spans.SpanAnswer.the-variants.{Edges}
 use Rattle.real.specs.declared.spans.SpanAnswer.the-variants as Spans
 use Rattle.real.proofs.OneAnswer.{one-real, one-span}
-use Rattle.balehasp.specs.Reals.{RealOut, SpanOut}
+use Rattle.balehasp.specs.Reals.{RealOut, SpanOut, spanOf}
 
 -- whether an answer holds something, and what it holds
 abbrev has-real : RealAnswer → Bool
@@ -40,11 +40,10 @@ one-real-out p was true false x y v w = absurd (subst T (ap has-real (one-real p
 one-real-out p was false true x y v w = absurd (subst T (sym (ap has-real (one-real p NaR (Real y) (v .0) w))) tt)
 one-real-out p was false false x y v w = (refl, v .1 ∙ sym (w .1))
 
-pub one-span-out : (p : ℕ) (was up : Float) (r s : Bool) (x x' y y' : Float) → SpanOut p was up r x x' → SpanOut p was up s y y' → (r ≡ s) × (x ≡ y) × (x' ≡ y')
-one-span-out p was up true true x x' y y' v w =
-    let e = one-span p (Edges (record { lower = x; upper = x' })) (Edges (record { lower = y; upper = y' })) v w in
-    (refl, ap (low was) e, ap (high up) e)
-one-span-out p was up true false x x' y y' v w = absurd (subst T (ap has-span (one-span p (Edges (record { lower = x; upper = x' })) Spans.NaR v (w .0))) tt)
-one-span-out p was up false true x x' y y' v w =
-    absurd (subst T (sym (ap has-span (one-span p Spans.NaR (Edges (record { lower = y; upper = y' })) (v .0) w))) tt)
-one-span-out p was up false false x x' y y' v w = (refl, v .1 ∙ sym (w .1), v .2 ∙ sym (w .2))
+pub one-span-out : (p : ℕ) (was up : Float) (old : ℕ) (r s : Bool) (x x' y y' : Float) (b d : ℕ) → SpanOut p was up old r x x' b → SpanOut p was up old s y y' d
+    → (r ≡ s) × (x ≡ y) × (x' ≡ y') × (b ≡ d)
+one-span-out p was up old true true x x' y y' b d v w =
+    let e = one-span p (spanOf p x x') (spanOf p y y') (v .0) (w .0) in (refl, ap (low was) e, ap (high up) e, v .1 ∙ sym (w .1))
+one-span-out p was up old true false x x' y y' b d v w = absurd (subst T (ap has-span (one-span p (spanOf p x x') Spans.NaR (v .0) (w .0))) tt)
+one-span-out p was up old false true x x' y y' b d v w = absurd (subst T (sym (ap has-span (one-span p Spans.NaR (spanOf p y y') (v .0) (w .0)))) tt)
+one-span-out p was up old false false x x' y y' b d v w = (refl, v .1 ∙ sym (w .1), v .2 ∙ sym (w .2), v .3 ∙ sym (w .3))

@@ -8,5 +8,5 @@ pub mod Bits
 pub mod OneAnswer
 pub mod Order
 pub mod Mirror
+pub mod Places
 pub mod Back
-pub mod Inside

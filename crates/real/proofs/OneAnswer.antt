@@ -1,5 +1,5 @@
 -- The contracts determine their results: any two outcomes that one allows are equal.
-use Prim.Native.Nat.{ℕ, _*_}
+use Prim.Native.Nat.{ℕ}
 use mathlib.Core.Path.{_≡_, _∙_, refl, sym, ap, subst}
 use native.Mathlib.Omega.{arith}
 use lib.Ieee.{Float, nan, inf, fin}
@@ -7,7 +7,7 @@ use Rattle.posit.specs.Number.{Number, nar, real, number, withSign}
 use Rattle.posit.specs.Rounding.{dyadic}
 use Rattle.posit.proofs.Laws.{one-answer, dyadic-straight}
 use Rattle.real.specs.Reals.{Holds, ToF64, FromF64}
-use Rattle.real.specs.Spans.{SpanOf, below, above}
+use Rattle.real.specs.Spans.{SpanOf, lowerPlace, upperPlace}
 use Rattle.real.specs.declared.numbers.RealAnswer.{RealAnswer}
 use Rattle.real.specs.declared.numbers.RealAnswer.the-variants as answer
 use Rattle.real.specs.declared.spans.SpanAnswer.{SpanAnswer}
@@ -34,9 +34,11 @@ one-pattern (fin s m e) u v a b = one-answer 1 16 (omega arith) (dyadic (withSig
 -- span_of
 pub one-span : (p : ℕ) (r s : SpanAnswer) → SpanOf p r → SpanOf p s → r ≡ s
 one-span p (span.Edges r) (span.Edges s) v w =
-    let l = one-held 30 (number 1 17 (below (2 * p))) (r .lower) (s .lower) (v .1) (w .1) in
-    let u = one-held 30 (number 1 17 (above (2 * p))) (r .upper) (s .upper) (v .2) (w .2) in
-    λ i. span.Edges (record { lower = l i; upper = u i })
+    let l = one-held 30 (number 1 17 (lowerPlace p .posit)) (r .lower) (s .lower) (v .1 .0) (w .1 .0) in
+    let u = one-held 30 (number 1 17 (upperPlace p .posit)) (r .upper) (s .upper) (v .2 .0) (w .2 .0) in
+    let b = v .1 .1 ∙ sym (w .1 .1) in
+    let e = v .2 .1 ∙ sym (w .2 .1) in
+    λ i. span.Edges (record { lower = l i; upper = u i; start = b i; end = e i })
 one-span p (span.Edges r) span.NaR v w = absurd (v .0 w)
 one-span p span.NaR (span.Edges s) v w = absurd (w .0 v)
 one-span p span.NaR span.NaR v w = refl

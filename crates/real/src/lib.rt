@@ -7,6 +7,8 @@ pub use numbers::RealAnswer;
 pub use numbers::to_f64;
 pub use patterns::from_bits;
 pub use patterns::from_f64;
+pub use spans::Edge;
 pub use spans::Span;
 pub use spans::SpanAnswer;
+pub use spans::edge_bits;
 pub use spans::span_of;

@@ -1,39 +1,63 @@
--- `real::spans::span_of` meets its contract: next to a pattern followed by a 0 stands neither zero nor NaR.
+-- `real::spans::span_of` meets its contract: both places are those of posits and not of NaR.
 use borrow.Author.Needs.{needs}
-use mathlib.Core.Path.{subst⁻¹}
 use Prim.Native.Nat.{ℕ, _+_, _*_, _^_, _<_}
+use mathlib.Core.Path.{_≡_, _∙_, refl, sym, ap, subst, subst⁻¹}
 use native.Mathlib.Omega.{arith}
-use native.Mathlib.Nat.{mod-eq-of-lt}
-use Rattle.real.specs.Spans.{Edge}
+use lib.Ieee.{Float}
+use Rattle.posit.specs.Number.{number}
+use Rattle.real.specs.Reals.{Holds}
+use Rattle.real.specs.Spans.{placeOf, lowerPlace, upperPlace, Stands}
+use Rattle.real.specs.declared.spans.Place.{Place}
+use Rattle.real.proofs.Places.{Posit, lower-posit, upper-posit, above-is}
 use Rattle.real.proofs.spans.span_of.Statement.{statement}
 use Rattle.real.proofs.spans.span_of.Tie as tie
 
+-- the next pattern of 17 bits above needs no wrapping
+high : (p : ℕ) → p < 2 ^ 16 → placeOf 0xffff 0x7fff (2 * p + 1) p ≡ upperPlace p
+high p top = ap (λ (v : ℕ). placeOf 0xffff 0x7fff v p) (sym (above-is p top))
+
+stands : (a b : Place) (x : Float) → a ≡ b → Holds 30 (number 1 17 (a .posit)) x → Stands b x (a .edge)
+stands a b x e h = subst (λ (k : Place). Stands k x (a .edge)) e (h, refl)
+
 returns : tie.Need-returns
-returns c = c .if1 .taken
+returns c = search needs
 
 mul-v : tie.Need-mul-v
 mul-v c = search needs
 
-add-edge : tie.Need-add-edge
-add-edge c = search needs
+add-place-of : tie.Need-add-place-of
+add-place-of c = search needs
 
-edge-requires : tie.Need-edge-requires
-edge-requires c κs = let h = c .if1 .left in (omega arith, omega arith, λ e. omega arith)
+place-of-requires : tie.Need-place-of-requires
+place-of-requires c κs = search needs
 
-add-edge-2 : tie.Need-add-edge-2
-add-edge-2 c = search needs
+add-place-of-2 : tie.Need-add-place-of-2
+add-place-of-2 c = search needs
 
-edge-requires-2 : tie.Need-edge-requires-2
-edge-requires-2 c κs = let h = c .before .if1 .left in (omega arith, omega arith, λ e. omega arith)
+place-of-requires-2 : tie.Need-place-of-requires-2
+place-of-requires-2 c κs = search needs
+
+number-17-requires : tie.Need-number-17-requires
+number-17-requires c κs =
+    let p = c .before .before .before .args .p in
+    subst⁻¹ (λ (a : Place). Posit (a .posit)) (c .before .place-of .ensures) (lower-posit p (omega arith))
+
+number-17-requires-2 : tie.Need-number-17-requires-2
+number-17-requires-2 c κs =
+    let p = c .before .before .before .before .args .p in
+    subst⁻¹ (λ (a : Place). Posit (a .posit)) (c .before .place-of2 .ensures ∙ high p (omega arith)) (upper-posit p (omega arith))
 
 returns-2 : tie.Need-returns-2
 returns-2 c =
-    let p = c .before .before .before .args .p in (
-      c .before .before .if1 .left,
-      c .before .edge .ensures,
-      subst⁻¹ (λ (v : ℕ). Edge v (c .edge2 .result)) (mod-eq-of-lt (let h : 2 * p + 1 < 2 ^ 17 = omega arith in h)) (c .edge2 .ensures),
+    let b = c .before .before .before in
+    let p = b .before .before .args .p in (
+      b .before .if1 .left,
+      stands (b .place-of .result) (lowerPlace p) (c .before .number-17 .result) (b .place-of .ensures) (c .before .number-17 .ensures),
+      stands (c .before .before .place-of2 .result) (upperPlace p) (c .number-172 .result)
+          (c .before .before .place-of2 .ensures ∙ high p (omega arith)) (c .number-172 .ensures),
     )
 
 pub span-of-spec : {M : Type 1} → statement M
 span-of-spec =
-    tie.close (tie.spec returns mul-v add-edge edge-requires add-edge-2 edge-requires-2 returns-2)
+    tie.close
+    (tie.spec returns mul-v add-place-of place-of-requires add-place-of-2 place-of-requires-2 number-17-requires number-17-requires-2 returns-2)

@@ -1,0 +1,30 @@
+-- Document 02, P5: "a finite f64 converts to a pattern exactly when it lies in that pattern's span". What "lies in" means, by
+-- the exact numbers of the f64 and of the edges.
+use Prim.Native.Nat.{_*_}
+use lib.IntN.{ℤ}
+use lib.Signed.{_≤ℤ_, _<ℤ_}
+use lib.Ieee.{Float, nan, inf, fin, up, down}
+use Rattle.posit.specs.Number.{withSign}
+use Rattle.real.specs.declared.spans.Edge.{Edge}
+use Rattle.real.specs.declared.spans.Edge.the-variants.{Missing, Excluded, Included}
+use Rattle.real.specs.declared.spans.Span.{Span}
+
+-- of two whole numbers the first comes before the second, one of which is an edge: it is less, or where the edge is included at
+-- most the other; where there is no edge that is any number
+abbrev pub Ordered : Edge → ℤ → ℤ → Type 0
+Ordered Missing k l = Unit {0}
+Ordered Excluded k l = k <ℤ l
+Ordered Included k l = k ≤ℤ l
+
+-- So do the numbers of two f64s. That of fin s m e is the fraction m * up e / down e with its sign: over the product of both
+-- denominators the two are whole, and -0.0 is zero. A NaN and an infinity have no number.
+abbrev pub Before : Edge → Float → Float → Type 0
+Before κ nan y = ⊥
+Before κ (inf s) y = ⊥
+Before κ (fin s m e) nan = ⊥
+Before κ (fin s m e) (inf t) = ⊥
+Before κ (fin s m e) (fin t n d) = Ordered κ (withSign s (m * up e * down d)) (withSign t (n * up d * down e))
+
+-- x comes after the lower edge and before the upper one
+abbrev pub LiesIn : Span → Float → Type 0
+LiesIn s x = Before (s .start) (s .lower) x × Before (s .end) x (s .upper)
