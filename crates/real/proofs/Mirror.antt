@@ -1,7 +1,6 @@
 -- Negating an f64 negates its pattern.
 use Prim.Native.Nat.{ℕ}
-use mathlib.Core.Path.{_≡_, _∙_, refl, ap, subst}
-use mathlib.Core.Bool.{true, false}
+use mathlib.Core.Path.{_≡_, _∙_, ap, subst}
 use native.Mathlib.Omega.{arith}
 use lib.Ieee.{Float, nan, inf, fin, neg}
 use Rattle.posit.specs.Number.{opposite, withSign}
@@ -21,11 +20,3 @@ mirrored nan p r = nar-opposite p r
 mirrored (inf s) p r = nar-opposite p r
 mirrored (fin s m e) p r =
     subst (λ (x : Known). Rounds 1 16 x (opposite 16 p)) (negated-number s m e) (mirrors 1 16 (omega arith) (dyadic (withSign s m) e) p r)
-
-pub negated-twice : (x : Float) → neg (neg x) ≡ x
-unfolding neg
-negated-twice nan = refl
-negated-twice (inf true) = refl
-negated-twice (inf false) = refl
-negated-twice (fin true m e) = refl
-negated-twice (fin false m e) = refl

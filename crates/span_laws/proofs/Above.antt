@@ -9,8 +9,8 @@ use lib.IntN.{ℤ}
 use lib.Pow.{pow-pos}
 use lib.Ieee.{up, down}
 use lib.Ieee.Fits.{up-pos, down-pos}
-use Rattle.posit.specs.Number.{opposite, withSign}
-use Rattle.posit.specs.Rounding.{ratio, dividing, Reached, Enough, Rounded, Rounds, dyadic, largest}
+use Rattle.posit.specs.Number.{withSign}
+use Rattle.posit.specs.Rounding.{dividing, Reached, Enough, Rounds, dyadic, largest}
 use Rattle.posit.proofs.Compare.{Told, less, same, more, told, reached, enough}
 use Rattle.posit.proofs.Complement.{opposite-is}
 use Rattle.posit.proofs.Own.{magnitude-some}

@@ -13,7 +13,7 @@ use lib.Ieee.Scale.{finite}
 use Rattle.real.specs.declared.spans.Edge.{Edge}
 use Rattle.real.specs.declared.spans.Edge.the-variants.{Missing, Excluded, Included}
 use Rattle.span_laws.specs.LiesIn.{Before}
-use Rattle.span_laws.proofs.Order.{Less, AtMost, Sized, sized}
+use Rattle.span_laws.proofs.Order.{Less, AtMost, sized}
 
 either : (p q : Bool) {P : Type 0} → T (p || q) → (T p → P) → (T q → P) → P
 either true q t f g = f tt

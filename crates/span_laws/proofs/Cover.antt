@@ -14,7 +14,7 @@ use Rattle.posit.specs.Answer.{answer}
 use Rattle.posit.proofs.Complement.{opposite-is, opposite-some}
 use Rattle.posit.proofs.Exists.{answered}
 use Rattle.posit.proofs.Patterns.{number-zero}
-use Rattle.real.specs.Reals.{Holds, FromF64}
+use Rattle.real.specs.Reals.{Holds}
 use Rattle.real.specs.Spans.{SpanOf, lowerPlace, upperPlace}
 use Rattle.real.specs.declared.spans.Span.{Span}
 use Rattle.real.specs.declared.spans.SpanAnswer.the-variants.{Edges}

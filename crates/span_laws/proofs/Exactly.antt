@@ -8,22 +8,22 @@ use native.Mathlib.Nat.{zero-mul, zero-lt-suc, mul-pos}
 use native.Mathlib.Decide.{decLt}
 use lib.IntN.{ℤ}
 use lib.Pow.{pow-pos}
-use lib.Ieee.{Float, nan, inf, fin, up, down}
+use lib.Ieee.{Float, nan, inf, fin, up, down, neg}
 use lib.Ieee.Fits.{up-pos}
 use Rattle.posit.specs.Number.{opposite, withSign}
-use Rattle.posit.specs.Rounding.{Known, Rounds, negated, ratio, dyadic}
+use Rattle.posit.specs.Rounding.{Rounds, ratio, dyadic}
 use Rattle.posit.proofs.Complement.{opposite-is}
-use Rattle.posit.proofs.Laws.{mirrors, never-zero}
+use Rattle.posit.proofs.Laws.{never-zero}
 use Rattle.real.specs.Reals.{FromF64}
-use Rattle.real.specs.Spans.{SpanOf, Stands, lowerPlace, upperPlace}
+use Rattle.real.specs.Spans.{SpanOf}
 use Rattle.real.specs.declared.spans.Edge.{Edge}
 use Rattle.real.specs.declared.spans.Edge.the-variants.{Included}
 use Rattle.real.specs.declared.spans.Span.{Span}
 use Rattle.real.specs.declared.spans.SpanAnswer.the-variants.{Edges}
-use Rattle.real.proofs.Values.{negated-number}
+use Rattle.real.proofs.Mirror.{mirrored}
 use Rattle.span_laws.specs.LiesIn.{Before, LiesIn}
 use Rattle.span_laws.proofs.Order.{Sized, turned}
-use Rattle.span_laws.proofs.Readings.{scaled, Reads, reads}
+use Rattle.span_laws.proofs.Readings.{scaled, reads}
 use Rattle.span_laws.proofs.Above.{between}
 use Rattle.span_laws.proofs.Ends.{at-zero, from-plus, to-plus, from-minus, to-minus}
 
@@ -54,24 +54,21 @@ at-nought s v b m e =
     (Iff·symm (reads false 0 Included (s .upper) (at-zero (s .upper) (v .2 .0)) .after b m e))))
 
 -- the opposite answers minus the number
-mirrored : (b : Bool) (m : ℕ) (e : ℤ) (p u : ℕ) → opposite 16 p ≡ u
-    → Rounds 1 16 (dyadic (withSign b m) e) p → Rounds 1 16 (dyadic (withSign (not b) m) e) u
-mirrored b m e p u o r =
-    subst (λ (x : Known). Rounds 1 16 x u) (negated-number b m e)
-    (subst (Rounds 1 16 (negated (dyadic (withSign b m) e))) o (mirrors 1 16 (omega arith) (dyadic (withSign b m) e) p r))
+mirror : (b : Bool) (m : ℕ) (e : ℤ) (p u : ℕ) → opposite 16 p ≡ u → opposite 16 u ≡ p → FromF64 (fin b m e) p ↔ FromF64 (fin (not b) m e) u
+unfolding neg
+mirror true m e p u o o' =
+    (λ r. subst (FromF64 (fin false m e)) o (mirrored (fin true m e) p r), λ r. subst (FromF64 (fin true m e)) o' (mirrored (fin false m e) u r))
+mirror false m e p u o o' =
+    (λ r. subst (FromF64 (fin true m e)) o (mirrored (fin false m e) p r), λ r. subst (FromF64 (fin false m e)) o' (mirrored (fin true m e) u r))
 
-mirror : (b : Bool) (m : ℕ) (e : ℤ) (p u : ℕ) → opposite 16 p ≡ u → opposite 16 u ≡ p
-    → Rounds 1 16 (dyadic (withSign b m) e) p ↔ Rounds 1 16 (dyadic (withSign (not b) m) e) u
-mirror true m e p u o o' = (mirrored true m e p u o, mirrored false m e u p o')
-mirror false m e p u o o' = (mirrored false m e p u o, mirrored true m e u p o')
-
+-- with the sign changed, an edge above zero is one below it
 turns : (κ : Edge) (a : ℕ) (b : Bool) (x : ℕ) → Sized κ false a (not b) x ↔ Sized κ b x true a
 turns κ a true x = (turned κ false a false x, turned κ true x true a)
 turns κ a false x = (turned κ false a true x, turned κ false x true a)
 
-turns' : (κ : Edge) (a : ℕ) (b : Bool) (x : ℕ) → Sized κ (not b) x false a ↔ Sized κ true a b x
-turns' κ a true x = (turned κ false x false a, turned κ true a true x)
-turns' κ a false x = (turned κ true x false a, turned κ true a false x)
+back-turns : (κ : Edge) (a : ℕ) (b : Bool) (x : ℕ) → Sized κ (not b) x false a ↔ Sized κ true a b x
+back-turns κ a true x = (turned κ false x false a, turned κ true a true x)
+back-turns κ a false x = (turned κ true x false a, turned κ true a false x)
 
 module _ (p : ℕ) (top : p < 2 ^ 16) (s : Span) (v : SpanOf p (Edges s)) where
   above-zero : 0 < p → p < 2 ^ 15 → (b : Bool) (m : ℕ) (e : ℤ) → FromF64 (fin b m e) p ↔ LiesIn s (fin b m e)
@@ -90,7 +87,7 @@ module _ (p : ℕ) (top : p < 2 ^ 16) (s : Span) (v : SpanOf p (Edges s)) where
       let there = Iff·trans (mirror b m e p u (opposite-is 16 p (omega arith)) o')
       (between u (omega arith) (omega arith) (s .end) (s .start) (f .size) (t .size) (f .end) (t .end) (not b) m e) in
       let back = Iff·and (Iff·trans (turns (s .end) (f .size * down e) b (scaled m e)) (Iff·symm (f .reads .after b m e)))
-      (Iff·trans (turns' (s .start) (t .size * down e) b (scaled m e)) (Iff·symm (t .reads .before b m e))) in
+      (Iff·trans (back-turns (s .start) (t .size * down e) b (scaled m e)) (Iff·symm (t .reads .before b m e))) in
       Iff·trans there (λ h. (back .0 h .1, back .0 h .0), λ h. back .1 (h .1, h .0))
 
   pub exactly : (x : Float) → FromF64 x p ↔ LiesIn s x

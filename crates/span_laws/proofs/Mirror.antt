@@ -1,6 +1,6 @@
 -- "The negative patterns mirror these": the lower edge of minus p is minus the upper edge of p, and the span stands there alike.
-use Prim.Native.Nat.{ℕ, _+_, _-_, _*_, _%_, _^_, _<_}
-use mathlib.Core.Path.{_≡_, _∙_, refl, sym, ap, subst⁻¹}
+use Prim.Native.Nat.{ℕ, _+_, _-_, _*_, _^_, _<_}
+use mathlib.Core.Path.{_≡_, _∙_, sym, ap, subst⁻¹}
 use native.Mathlib.Omega.{arith}
 use native.Mathlib.Decide.{ℕ-discrete}
 use Rattle.posit.specs.Number.{opposite}

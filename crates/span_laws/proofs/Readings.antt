@@ -25,10 +25,16 @@ pub record Reads (t : Bool) (a : ℕ) (κ : Edge) (y : Float) : Type 0 where
 pub reads : (t : Bool) (a : ℕ) (κ : Edge) (y : Float) → HasValue y t a (2 ^ 30) → Reads t a κ y
 reads t a κ nan v = absurd v
 reads t a κ (inf r) v = absurd v
-reads t a κ (fin r n d) v = subst (λ (b : Bool). Reads b a κ (fin r n d)) (v .0) (record {
-  before = λ s m e. same-order κ r (n * up d * down e) s (m * up e * down d) (a * down e) (scaled m e) (2 ^ 30) (down d) (pow-pos 30) (down-pos d) (own e) (other m e);
-  after = λ s m e. same-order κ s (m * up e * down d) r (n * up d * down e) (scaled m e) (a * down e) (2 ^ 30) (down d) (pow-pos 30) (down-pos d) (other m e) (own e);
-})
+reads t a κ (fin r n d) v =
+    subst (λ (b : Bool). Reads b a κ (fin r n d)) (v .0)
+    (record {
+      before =
+          λ s m e. same-order κ r (n * up d * down e) s (m * up e * down d) (a * down e) (scaled m e) (2 ^ 30) (down d)
+          (pow-pos 30) (down-pos d) (own e) (other m e);
+      after =
+          λ s m e. same-order κ s (m * up e * down d) r (n * up d * down e) (scaled m e) (a * down e) (2 ^ 30) (down d)
+          (pow-pos 30) (down-pos d) (other m e) (own e);
+    })
   where
     own : (e : ℤ) → n * up d * down e * 2 ^ 30 ≡ a * down e * down d
     own e = mul-right-comm (n * up d) (down e) (2 ^ 30) ∙ ap (λ (x : ℕ). x * down e) (v .1) ∙ mul-right-comm a (down d) (down e)
