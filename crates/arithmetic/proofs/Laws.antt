@@ -8,7 +8,7 @@ use lib.IntN.{ℤ, pos, negsuc, negℤ, _+ℤ_, _-ℤ_, _*ℤ_, +ℤ-idr, +ℤ-i
 use lib.Signed.{leZ}
 use lib.Ieee.{up, down}
 use Rattle.posit.specs.Number.{Number, nar, real, number, magnitude, run, opposite}
-use Rattle.posit.specs.Rounding.{Known, nought, plus, minus, ratio, over, Rounds, negated}
+use Rattle.posit.specs.Rounding.{Known, plus, minus, ratio, over, Rounds, negated}
 use Rattle.posit.proofs.Compare.{ratio-same}
 use Rattle.posit.proofs.Complement.{opposite-is}
 use Rattle.posit.proofs.Dyadic.{dyadic-plus, dyadic-minus, down-some}
@@ -173,9 +173,3 @@ module _ (p q p' q' r s : ℕ) (a b a' b' : ℤ) (is : number 1 16 p ≡ real a)
   product-in-order h m n =
       in-order 1 16 (lit≤ tt) (over (a *ℤ b) 56) (over (a' *ℤ b') 56) (over-straight (a *ℤ b) 56) (over-straight (a' *ℤ b') 56)
       (ordered (a *ℤ b) (a' *ℤ b') 56 h) r s (rw (is, is2) at m) (rw (is3, is4) at n)
-
--- no number is rounded to NaR
-pub rounds-no-nar : (x : Known) (r : ℕ) → Rounds 1 16 x r → r ≡ 0x8000 → ⊥
-rounds-no-nar nought r h e = omega arith
-rounds-no-nar (plus c) r h e = let m = h .most in omega arith
-rounds-no-nar (minus c) r h e = let m = h .most in let o = ap (opposite 16) e ∙ nar-itself in omega arith

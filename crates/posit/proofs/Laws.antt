@@ -1,6 +1,6 @@
 -- The laws of the rounding rule, sign and zero included: one answer, order, negation, a posit's own number.
-use Prim.Native.Nat.{ℕ, zero, suc, _+_, _-_, _*_, _%_, _^_, _≤_}
-use mathlib.Core.Path.{_≡_, _∙_, subst, subst⁻¹, sym, ap}
+use Prim.Native.Nat.{ℕ, zero, suc, _+_, _-_, _*_, _%_, _^_, _≤_, _<_}
+use mathlib.Core.Path.{_≡_, _∙_, subst⁻¹, sym, ap}
 use native.Mathlib.Omega.{arith}
 use native.Mathlib.Nat.{pow-suc, mod-eq-of-lt}
 use lib.Pow.{pow-pos, low}
@@ -63,6 +63,18 @@ pub data NoMore : Known → Known → Type 0 where
 module _ (es n : ℕ) (few : 3 ≤ n) where
   half : 2 ^ n ≡ 2 ^ (n - 1) + 2 ^ (n - 1)
   half = let d : 2 ^ n ≡ 2 ^ suc (n - 1) = ap (λ (x : ℕ). 2 ^ x) (omega arith) in let e = pow-suc 2 (n - 1) in omega arith
+
+  -- an answer is a pattern, and never NaR
+  pub never-nar : (x : Known) (u : ℕ) → Rounds es n x u → (u < 2 ^ n) × (u ≡ 2 ^ (n - 1) → ⊥)
+  never-nar nought u r = let z = pow-pos (n - 1) in let d = half in (omega arith, λ e. omega arith)
+  never-nar (plus c) u r = let h = r .most in let z = pow-pos (n - 1) in let d = half in (omega arith, λ e. omega arith)
+  never-nar (minus c) u r =
+      let s = opposite-some n u (r .least) in
+      let o = opposite-is n u (s .0) in
+      let h = r .most in
+      let z = pow-pos (n - 1) in
+      let d = half in
+      (s .1, λ e. omega arith)
 
   rank-plus : (c : Cut) (u : ℕ) → Rounded es n c u → rank n u ≡ u + 2 ^ (n - 1)
   rank-plus c u r = mod-eq-of-lt (let h = r .most in let z = pow-pos (n - 1) in let d = half in omega arith)

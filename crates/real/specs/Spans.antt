@@ -27,12 +27,12 @@ above v = (v + 1) % 2 ^ 17
 abbrev pub at : ℕ → Edge → Place
 at v e = record { posit = v; edge = e }
 
--- "An even pattern includes both its dividing numbers, an odd one neither"
+-- an edge at a dividing number. Document 01, Rounding: "on it the even one"
 abbrev pub tied : ℕ → Edge
 tied p = cond (eqb (p % 2) 0) Included Excluded
 
--- the edge of p on one side: at `next`, but "zero's span is zero alone", that of the pattern `inmost` goes up to 0 "with 0 not
--- included", and that of `outmost` "has no end" there
+-- The edge of p on one side, by rule at the 17-bit posit `next`. But "zero's span is zero alone"; that of the pattern `inmost` on
+-- this side ends at 0 "with 0 not included"; and that of the pattern `outmost` has no end there.
 abbrev pub placeOf : ℕ → ℕ → ℕ → ℕ → Place
 placeOf inmost outmost next p =
     cond (eqb p 0) (at 0 Included) (cond (eqb p inmost) (at 0 Excluded) (cond (eqb p outmost) (at 0 Missing) (at next (tied p))))

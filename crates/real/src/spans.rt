@@ -6,7 +6,8 @@ ghost use Rattle.posit.specs.Number.{magnitude, number};
 ghost use Rattle.real.specs.Reals.{Exactly, Holds};
 ghost use Rattle.real.specs.Spans.{at, tied, placeOf, edgeBits, SpanOf};
 
-// How a span stands at an edge: it has none there, or has it with or without that number itself.
+// How a span stands at an edge: there is none, and the span goes on without end; or the span goes up to it, without that number
+// or with it.
 pub enum Edge {
     Missing,
     Excluded,
@@ -86,8 +87,8 @@ fn at(posit: u32, edge: Edge) -> Place
     Place { posit, edge }
 }
 
-// An edge of the span of p: at `next`, a 17-bit posit next to p followed by a 0. But the span of zero is zero alone, that of the
-// pattern `inmost` goes up to zero without it, and that of `outmost` has no edge on this side.
+// The edge of p on one side: at `next`, the 17-bit posit next to p followed by a 0. But the span of zero is zero alone, that of
+// the pattern `inmost` goes up to zero without it, and that of `outmost` has no edge on this side.
 fn place_of(p: u16, inmost: u16, outmost: u16, next: u32) -> Place
     ensures { λ a. ⌜ a ≡ placeOf inmost outmost next p ⌝ }
 {

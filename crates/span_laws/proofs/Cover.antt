@@ -9,10 +9,10 @@ use lib.IntN.{pos, negsuc}
 use lib.Ieee.{Float, nan, inf, fin, binary64, fits, mul, ofInt, neg}
 use lib.Ieee.Scale.{finite}
 use Rattle.posit.specs.Number.{number, magnitude, opposite, withSign}
-use Rattle.posit.specs.Rounding.{Known, nought, plus, minus, Rounds, dyadic}
+use Rattle.posit.specs.Rounding.{Known, Rounds, dyadic}
 use Rattle.posit.specs.Answer.{answer}
-use Rattle.posit.proofs.Complement.{opposite-is, opposite-some}
 use Rattle.posit.proofs.Exists.{answered}
+use Rattle.posit.proofs.Laws.{never-nar}
 use Rattle.posit.proofs.Patterns.{number-zero}
 use Rattle.real.specs.Reals.{Holds}
 use Rattle.real.specs.Spans.{SpanOf, lowerPlace, upperPlace}
@@ -72,16 +72,6 @@ spanned p top not-nar =
       is = (not-nar, (a .holds, refl), (b .holds, refl));
     }
 
--- no number rounds to NaR
-real-pattern : (x : Known) (p : ℕ) → Rounds 1 16 x p → (p < 2 ^ 16) × (p ≡ 0x8000 → ⊥)
-real-pattern nought p r = (omega arith, λ e. omega arith)
-real-pattern (plus c) p r = let h = r .most in (omega arith, λ e. omega arith)
-real-pattern (minus c) p r =
-    let s = opposite-some 16 p (r .least) in
-    let o = opposite-is 16 p (s .0) in
-    let h = r .most in
-    (s .1, λ e. omega arith)
-
 pub record Home (x : Float) : Type 0 where
   pub pattern : ℕ
   pub top : pattern < 2 ^ 16
@@ -95,6 +85,6 @@ somewhere (fin s m e) f =
     let k : Known = dyadic (withSign s m) e in
     let p : ℕ = answer 1 16 k in
     let r : Rounds 1 16 k p = answered 1 16 (omega arith) k in
-    let n = real-pattern k p r in
+    let n = never-nar 1 16 (omega arith) k p r in
     let o = spanned p (n .0) (n .1) in
     record { pattern = p; top = n .0; own = o; lies = exactly p (n .0) (o .span) (o .is) (fin s m e) .0 r }

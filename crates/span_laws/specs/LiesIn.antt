@@ -9,15 +9,15 @@ use Rattle.real.specs.declared.spans.Edge.{Edge}
 use Rattle.real.specs.declared.spans.Edge.the-variants.{Missing, Excluded, Included}
 use Rattle.real.specs.declared.spans.Span.{Span}
 
--- of two whole numbers the first comes before the second, one of which is an edge: it is less, or where the edge is included at
--- most the other; where there is no edge that is any number
+-- The whole number k comes before l, one of which is an edge: it is less than l, or at most l where the edge is included. Where
+-- the edge is missing nothing is asked.
 abbrev pub Ordered : Edge → ℤ → ℤ → Type 0
 Ordered Missing k l = Unit {0}
 Ordered Excluded k l = k <ℤ l
 Ordered Included k l = k ≤ℤ l
 
--- So do the numbers of two f64s. That of fin s m e is the fraction m * up e / down e with its sign: over the product of both
--- denominators the two are whole, and -0.0 is zero. A NaN and an infinity have no number.
+-- The same of the numbers of two f64s. That of fin s m e is the fraction m * up e / down e with its sign, so over the product of
+-- both denominators the two are whole numbers, and -0.0 is zero. A NaN and an infinity have no number.
 abbrev pub Before : Edge → Float → Float → Type 0
 Before κ nan y = ⊥
 Before κ (inf s) y = ⊥

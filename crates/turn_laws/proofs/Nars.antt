@@ -7,9 +7,9 @@ use native.Mathlib.Omega.{arith}
 use borrow.Author.Tests.{ne-eqb}
 use lib.Dec.{lit≤}
 use Rattle.posit.specs.Number.{real, number, size, opposite}
-use Rattle.posit.specs.Rounding.{Known, nought, plus, minus, Rounds}
 use Rattle.posit.proofs.Complement.{opposite-twice, opposite-some}
 use Rattle.posit.proofs.Exists.{answered}
+use Rattle.posit.proofs.Laws.{never-nar}
 use Rattle.rows.specs.Rows.{Row, names, rounds, within, opposed}
 use Rattle.rows.proofs.Straight.{of-either, of-sign}
 use Rattle.p16e1.specs.Functions.{rowOf, answerTo, answerOf}
@@ -20,7 +20,7 @@ use Rattle.arithmetic.specs.Operations.{sum, product}
 use Rattle.arithmetic.specs.Sizes.{signedUnits}
 use Rattle.arithmetic.proofs.Exact.{number-units}
 use Rattle.arithmetic.proofs.Opposites.{opposite-fits}
-use Rattle.arithmetic.proofs.Laws.{nar-itself, rounds-no-nar}
+use Rattle.arithmetic.proofs.Laws.{nar-itself}
 use Rattle.turning.specs.Turn.{Three, Matrix, three, part, row, column, roundedSum, roundedProduct, sine, cosine, entry, rowTimes, matrixTimes, armTimes}
 use Rattle.turning.specs.Turn.{headingMatrix, pitchMatrix, rollMatrix, anyNar, turned}
 
@@ -39,16 +39,11 @@ abbrev Sound : Row → Type 0
 Sound (names u) = Real u
 Sound (rounds x) = Unit {0}
 
-rounds-fits : (x : Known) (r : ℕ) → Rounds 1 16 x r → r < 0x10000
-rounds-fits nought r h = omega arith
-rounds-fits (plus c) r h = let m = h .most in omega arith
-rounds-fits (minus c) r h = opposite-some 16 r (h .least) .1
-
 sound-answer : (w : Row) → Sound w → Real (answerTo w)
 sound-answer (names u) s = s
 sound-answer (rounds x) s =
     let m = answered 1 16 (lit≤ tt) x in
-    (rounds-fits x (answerTo (rounds x)) m, rounds-no-nar x (answerTo (rounds x)) m)
+    never-nar 1 16 (lit≤ tt) x (answerTo (rounds x)) m
 
 minus-real : (p : ℕ) → Real p → Real (opposite 16 p)
 minus-real p r = (
