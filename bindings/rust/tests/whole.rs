@@ -624,6 +624,7 @@ fn spans() {
             }
             Bound::Unbounded => [f64::MAX, f64::MIN, f64::INFINITY],
         }) {
+            assert_eq!(from_f64(x), rounded(&dividing, x), "{x:e}");
             assert_eq!(found.contains(x), from_f64(x) == p, "{p:#06x}, {x:e}");
             *(if found.contains(x) { &mut inside } else { &mut outside }) += 1;
         }
