@@ -1,7 +1,7 @@
 // The ten functions of softposit 0.4.0 and those of balehasp on the same inputs, called one by one through pointers of one
-// type, in three orders; then the batch and the listing beside plain loops over the Rust functions; then the operations, the turn
-// and the functions by number, without the side and with it, which have no Rust beside them. Prints nanoseconds a call or a
-// pattern, the median of several runs that take turns, and the ratio. The clock is the thread's own, which stands still while
+// type, in three orders; then the batch and the listing beside plain loops over the Rust functions; then the listing in pieces, the
+// operations, the turn and the functions by number, without the side and with it, which have no Rust beside them. Prints nanoseconds
+// a call, a pattern or a byte, the median of several runs that take turns, and the ratio. The clock is the thread's own, which stands still while
 // other programs have the processor. With the words `count SIDE WORK` one side does one thing once and nothing is printed, for a
 // tool that counts instructions.
 //
@@ -81,6 +81,7 @@ const THEIRS: Option<Calls> = None;
 unsafe extern "C" {
     fn balehasp_answer(function: u16, p: u16, answer: *mut u16) -> u16;
     fn balehasp_sided(function: u16, p: u16, answer: *mut u16, side: *mut i8) -> u16;
+    fn balehasp_piece(state: *mut [u8; 2076], piece: *const u8, length: usize) -> u16;
 }
 
 // Nanoseconds that this thread has run.
@@ -334,6 +335,21 @@ fn listings(patterns: &[u16]) {
     assert_eq!(output.0, output.1);
 }
 
+// The longest listing in pieces of one size, to its last byte.
+fn in_pieces(patterns: &[u16]) {
+    let input = listing_of(patterns);
+    for size in [1, 16, 256] {
+        alone(&format!("pieces of {size}, {} bytes", input.len()), input.len(), || {
+            let mut state = [0; 2076];
+            for piece in input.chunks(size) {
+                // SAFETY: the state and the piece live through the call and are apart.
+                assert_eq!(unsafe { balehasp_piece(&mut state, piece.as_ptr(), piece.len()) }, 0);
+            }
+            state
+        });
+    }
+}
+
 fn count(side: &str, work: &str, inputs: &[u16]) {
     let rust = side == "rust";
     let mut output = vec![0; inputs.len()];
@@ -371,6 +387,7 @@ fn main() {
         batches(&random[..length]);
     }
     listings(&random[..1024]);
+    in_pieces(&random[..1024]);
     operations("in order", &in_order);
     operations("random order", &random);
     operations("drifting", &drifting);

@@ -13,7 +13,7 @@
 static unsigned char stack[ROOM];
 static ucontext_t here, there;
 static uint16_t input[1024], output[1024];
-static uint8_t listing[BALEHASP_LONGEST_LISTING], answered[BALEHASP_LONGEST_ANSWERED];
+static uint8_t listing[BALEHASP_LONGEST_LISTING], answered[BALEHASP_LONGEST_ANSWERED], state[BALEHASP_PIECES];
 static volatile uint16_t sink;
 static bool refused;
 
@@ -64,6 +64,14 @@ static void answer_listing(void)
     refused |= balehasp_listing(listing, sizeof listing, answered, sizeof answered, &written) != 0;
 }
 
+static void in_pieces(void)
+{
+    size_t written;
+    for (size_t at = 0; at < sizeof listing; at += 148)
+        refused |= balehasp_piece(state, listing + at, 148) != 0;
+    refused |= balehasp_end(state, answered, sizeof answered, &written) != 0;
+}
+
 static void reals(void)
 {
     double lower, upper;
@@ -103,9 +111,9 @@ int main(void)
     }
     size_t none = used(nothing);
     printf("stack, at most, with the caller's own frame: the ten functions %zu, the operations and the turn %zu, answer and sided %zu, "
-           "batch %zu, listing %zu, reals %zu bytes\n", used(functions) - none, used(operations) - none, used(by_number) - none,
-           used(batch) - none, used(answer_listing) - none, used(reals) - none);
+           "batch %zu, listing %zu, pieces and end %zu, reals %zu bytes\n", used(functions) - none, used(operations) - none, used(by_number) - none,
+           used(batch) - none, used(answer_listing) - none, used(in_pieces) - none, used(reals) - none);
     if (refused)
-        fputs("stack: a batch or the listing was refused, so its bytes are not those of the work\n", stderr);
+        fputs("stack: a batch or a listing was refused, so its bytes are not those of the work\n", stderr);
     return refused;
 }

@@ -186,4 +186,5 @@ def main():
     print("failing writes and a failing read are told; every reading is shown before the next is sent")
 
 
-main()
+if __name__ == "__main__":
+    main()

@@ -1337,6 +1337,8 @@ static void sides(void)
            "%u, %u, %u, %u, %u\n", ways[NO_ANSWER], ways[NO_SIDE], ways[NO_PLACE], ways[ODD], ways[OVERLAP]);
 }
 
+#include "pieces.h"
+
 static void read_answers(const char *path)
 {
     FILE *file = fopen(path, "rb");
@@ -1372,6 +1374,7 @@ int main(int words, char **word)
     reals();
     spans();
     sides();
+    pieces();
     puts("outside: all passed");
     return 0;
 }

@@ -1,6 +1,6 @@
 /* balehasp: ten functions of 16-bit posits with one exponent bit, also with the way each answer was rounded; negation, sums,
- * differences and products, the turn of a lever arm, a batch, a listing, the differences of two answered listings, conversions
- * with double, and spans.
+ * differences and products, the turn of a lever arm, a batch, a listing, whole or in pieces, the differences of two answered
+ * listings, conversions with double, and spans.
  *
  * A posit is passed as its pattern, a uint16_t. 0x0000 is zero and 0x8000 is NaR ("not a real"). NaR is an answer and not an
  * error: ln of a negative number is NaR, and a call that answers it has succeeded.
@@ -12,7 +12,8 @@
  * NULL will do. Where input and output may overlap, the call says so. What no call can test is the caller's to see to: a
  * pointer points to as many items as its length says, and a place for a result is one.
  *
- * No call allocates, blocks or keeps a pointer. There is no state, so threads may call at once. */
+ * No call allocates, blocks or keeps a pointer. The library has no state of its own, so threads may call at once; what is
+ * kept between two calls for a listing in pieces lies with the caller, who sees to it that one thread at a time lends it. */
 #ifndef BALEHASP_H
 #define BALEHASP_H
 
@@ -22,9 +23,9 @@
 #include <string.h>
 
 #define BALEHASP_VERSION_MAJOR 0
-#define BALEHASP_VERSION_MINOR 6
+#define BALEHASP_VERSION_MINOR 7
 #define BALEHASP_VERSION_PATCH 0
-#define BALEHASP_VERSION "0.6.0"
+#define BALEHASP_VERSION "0.7.0"
 
 /* Has the compiler warn where a result is dropped. */
 #if (defined __cplusplus && __cplusplus >= 201703L) || (defined __STDC_VERSION__ && __STDC_VERSION__ > 201710L)
@@ -55,7 +56,8 @@ enum {
     BALEHASP_ACOS_PI = 10
 };
 
-/* The refusals' numbers. Each call names those that it gives; 7 and 8 are balehasp_difference's alone. */
+/* The refusals' numbers. Each call names those that it gives; 7 and 8 are balehasp_difference's alone, and 12 is given by
+ * balehasp_piece and balehasp_end. 9, 10 and 11 are no refusals yet. */
 enum {
     BALEHASP_REFUSED_FUNCTION = 1, /* a function number outside 1 to 10 */
     BALEHASP_REFUSED_OUTPUT = 2,   /* the output is too short */
@@ -64,7 +66,8 @@ enum {
     BALEHASP_REFUSED_LIMITS = 5,   /* a count of a listing is outside its limits */
     BALEHASP_REFUSED_AFTER = 6,    /* bytes after a listing's patterns, or after an answered one's answers */
     BALEHASP_REFUSED_COUNT = 7,    /* the count of answers is not functions times patterns */
-    BALEHASP_REFUSED_DIFFERENT = 8 /* two listings ask different things */
+    BALEHASP_REFUSED_DIFFERENT = 8, /* two listings ask different things */
+    BALEHASP_REFUSED_STATE = 12     /* a state that no calls from a fresh one produce */
 };
 
 /* No refusal, but a call that cannot be made: NULL with a length above 0, a pointer that is not aligned for its items, more
@@ -154,6 +157,38 @@ BALEHASP_MUST_USE uint16_t balehasp_batch(
  * Input and output may overlap: the stack has room for a copy of the input, some 2,100 bytes. */
 BALEHASP_MUST_USE uint16_t balehasp_listing(
     const uint8_t *input, size_t input_length,
+    uint8_t *output, size_t output_length,
+    size_t *written);
+
+/* How many bytes a state has that is kept between the pieces of a listing. */
+#define BALEHASP_PIECES 2076
+
+/* Takes the next `length` bytes of a listing that comes in pieces, cut wherever the radio cuts it; a length of 0 is a piece too.
+ * `state` is kept between the calls, one for each listing that is on its way. All zeros are a fresh one: start with
+ * uint8_t state[BALEHASP_PIECES] = {0}, hand it to balehasp_piece as often as bytes come, then to balehasp_end. It may be stored
+ * and read back; it holds the bytes so far and zeros after them (BALEHASP_LONGEST_LISTING in all), then how many they are as two
+ * bytes, low first, then the refusal as two bytes.
+ * Whatever the cuts, what balehasp_end gives is what balehasp_listing gives on all the bytes at once, but that some refusals
+ * come earlier. Returns 0, or the refusal that the bytes so far meet, as soon as they meet it:
+ *   5 at the call that brings the second byte of a count outside its limits,
+ *   1 at the call that brings the last byte of the functions,
+ *   6 at the call that brings the first byte after the patterns.
+ * A piece is never refused for 4, which is balehasp_end's to say. Refused, the state keeps no bytes, all zeros but the refusal,
+ * and every later call, balehasp_piece or balehasp_end, repeats that refusal and changes nothing, until the caller sets the
+ * state to zeros for the next listing.
+ * Refusal 12 goes before all of these: a state that no calls from a fresh one produce, which stays as it was.
+ * `state` may not be NULL and may not overlap the piece, else BALEHASP_MISUSED. */
+BALEHASP_MUST_USE uint16_t balehasp_piece(uint8_t state[BALEHASP_PIECES], const uint8_t *piece, size_t length);
+
+/* Says that the listing has come whole, and answers it: writes what balehasp_listing would write into the first bytes of
+ * `output`, and to *written how many they are; the bytes after them stay as they were. Returns 0, and the state is fresh again.
+ * Refusals: 12 and those that the state keeps, as in balehasp_piece; then 4 and 2, which the state keeps from then on, so an
+ * output that was too short cannot be mended by a second call: BALEHASP_LONGEST_ANSWERED bytes are always enough. A refused call
+ * writes nothing to the output, and *written is 0.
+ * `state` may not be NULL and may not overlap the output or the place for *written, else BALEHASP_MISUSED, with *written 0 where
+ * that is a place of its own. */
+BALEHASP_MUST_USE uint16_t balehasp_end(
+    uint8_t state[BALEHASP_PIECES],
     uint8_t *output, size_t output_length,
     size_t *written);
 
@@ -326,6 +361,31 @@ BALEHASP_MUST_USE static inline uint16_t balehasp_listing_checked(
     return refusal;
 }
 
+/* The state is written, so what is read or written beside it may not lie in it. */
+BALEHASP_MUST_USE static inline uint16_t balehasp_piece_checked(uint8_t *state, const uint8_t *piece, size_t length)
+{
+    uint8_t no_bytes = 0;
+    if (!balehasp_can_lie(state, BALEHASP_PIECES, 1) || !balehasp_can_lie(piece, length, 1)
+        || balehasp_overlap(state, BALEHASP_PIECES, piece, length))
+        return BALEHASP_MISUSED;
+    return balehasp_piece(state, length ? piece : &no_bytes, length);
+}
+
+BALEHASP_MUST_USE static inline uint16_t balehasp_end_checked(
+    uint8_t *state, uint8_t *output, size_t output_length, size_t *written)
+{
+    uint8_t no_bytes = 0;
+    uint16_t refusal = BALEHASP_MISUSED;
+    size_t bytes = 0;
+    if (balehasp_overlap(state, state ? BALEHASP_PIECES : 0, written, written ? sizeof *written : 0))
+        return BALEHASP_MISUSED;
+    if (balehasp_can_lie(state, BALEHASP_PIECES, 1) && balehasp_can_lie(output, output_length, 1)
+        && !balehasp_overlap(state, BALEHASP_PIECES, output, output_length))
+        refusal = balehasp_end(state, output_length ? output : &no_bytes, output_length, &bytes);
+    balehasp_give(written, &bytes, sizeof bytes);
+    return refusal;
+}
+
 /* Both listings are only read, so they may overlap. The next call reads them again, so the result is not written into them. */
 BALEHASP_MUST_USE static inline uint16_t balehasp_difference_checked(
     const uint8_t *first, size_t first_length,
@@ -372,6 +432,8 @@ BALEHASP_MUST_USE static inline bool balehasp_span_checked(uint16_t p, double *l
 #define balehasp_turn balehasp_turn_checked
 #define balehasp_batch balehasp_batch_checked
 #define balehasp_listing balehasp_listing_checked
+#define balehasp_piece balehasp_piece_checked
+#define balehasp_end balehasp_end_checked
 #define balehasp_difference balehasp_difference_checked
 #define balehasp_to_f64 balehasp_to_f64_checked
 #define balehasp_span balehasp_span_checked

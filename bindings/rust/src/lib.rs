@@ -1,6 +1,6 @@
 //! Ten functions of 16-bit posits with one exponent bit, also with the way each answer was rounded; negation, sums, differences
-//! and products, the turn of a lever arm, a batch, a listing, the differences of two answered listings, conversions with `f64`,
-//! and spans.
+//! and products, the turn of a lever arm, a batch, a listing, whole or in pieces, the differences of two answered listings,
+//! conversions with `f64`, and spans.
 //!
 //! A posit is passed as its pattern, a `u16`. `0x0000` is zero and [`NAR`] is NaR ("not a real"). NaR is an answer and not an
 //! error: `ln` of a negative number is NaR, and a call that answers it has succeeded. What a call can refuse is a [`Refusal`];
@@ -54,7 +54,7 @@ pub const LONGEST_LISTING: usize = 2072;
 pub const LONGEST_ANSWERED: usize = 22554;
 
 /// Why a call was refused, with the refusals' numbers. Each call names those that it gives; `Count` and `Different` come from
-/// [`difference`] and [`differences`] alone.
+/// [`difference`] and [`differences`] alone, `State` from [`Pieces`].
 ///
 /// ```
 /// use balehasp::Refusal;
@@ -82,6 +82,8 @@ pub enum Refusal {
     Count = 7,
     /// Two listings ask different things.
     Different = 8,
+    /// A state that no calls from a fresh one produce.
+    State = 12,
 }
 
 impl Refusal {
@@ -105,7 +107,8 @@ impl Refusal {
             5 => Err(Refusal::Limits),
             6 => Err(Refusal::After),
             7 => Err(Refusal::Count),
-            _ => Err(Refusal::Different), // 8: there are no others
+            8 => Err(Refusal::Different),
+            _ => Err(Refusal::State), // 12: there are no others
         }
     }
 }
@@ -121,6 +124,7 @@ impl fmt::Display for Refusal {
             Refusal::After => "bytes after a listing's patterns, or after an answered one's answers",
             Refusal::Count => "the count of answers is not functions times patterns",
             Refusal::Different => "two listings ask different things",
+            Refusal::State => "a state that no calls from a fresh one produce",
         })
     }
 }
@@ -249,6 +253,8 @@ extern "C" {
         output_length: usize,
         written: *mut usize,
     ) -> u16;
+    fn balehasp_piece(state: *mut [u8; PIECES], piece: *const u8, length: usize) -> u16;
+    fn balehasp_end(state: *mut [u8; PIECES], output: *mut u8, output_length: usize, written: *mut usize) -> u16;
     fn balehasp_difference(
         first: *const u8,
         first_length: usize,
@@ -532,6 +538,122 @@ pub fn listing(input: &[u8], output: &mut [u8]) -> Result<usize, Refusal> {
     let refusal =
         unsafe { balehasp_listing(input.as_ptr(), input.len(), output.as_mut_ptr(), output.len(), &mut written) };
     Refusal::unless(refusal, written)
+}
+
+/// How many bytes a stored state of [`Pieces`] has.
+///
+/// ```
+/// use balehasp::{LONGEST_LISTING, PIECES};
+/// assert_eq!(PIECES, LONGEST_LISTING + 2 + 2);
+/// ```
+pub const PIECES: usize = 2076;
+
+/// A listing that comes in pieces, cut wherever the radio cuts it, a byte at a time or none.
+///
+/// Hand each piece to [`piece`](Pieces::piece) as it comes, and call [`end`](Pieces::end) when the listing has come whole.
+/// Whatever the cuts, the end gives what [`listing`] gives on all the bytes at once, but that some refusals come earlier. After a
+/// refusal every later call repeats it and changes nothing; take a new one for the next listing. After an end that answered it is
+/// new again.
+///
+/// ```
+/// use balehasp::{Pieces, Refusal, LONGEST_ANSWERED};
+///
+/// let mut pieces = Pieces::new();
+/// let mut output = [0; LONGEST_ANSWERED];
+/// pieces.piece(&[1])?;
+/// pieces.piece(&[0, 2, 0, 1])?;
+/// pieces.piece(&[])?;
+/// pieces.piece(&[0, 0x00, 0x40])?;
+/// let written = pieces.end(&mut output)?;
+/// assert_eq!(output[..written], [1, 0, 2, 0, 1, 0, 0x00, 0x40, 1, 0, 0x00, 0x50]);
+/// assert_eq!(pieces, Pieces::new());
+///
+/// // a count of no functions is refused as soon as it has come, and from then on
+/// pieces.piece(&[0])?;
+/// assert_eq!(pieces.piece(&[0, 2]), Err(Refusal::Limits));
+/// assert_eq!(pieces.piece(&[]), Err(Refusal::Limits));
+/// assert_eq!(pieces.end(&mut output), Err(Refusal::Limits));
+/// # Ok::<(), Refusal>(())
+/// ```
+#[derive(Clone, Debug, PartialEq, Eq)]
+pub struct Pieces([u8; PIECES]);
+
+impl Pieces {
+    /// Before any bytes have come.
+    ///
+    /// ```
+    /// assert_eq!(balehasp::Pieces::new().as_bytes(), &[0; balehasp::PIECES]);
+    /// ```
+    #[must_use]
+    pub const fn new() -> Self {
+        Self([0; PIECES])
+    }
+
+    /// What was stored, as [`as_bytes`](Pieces::as_bytes) gives it. Whether it is a state that some calls from a new one
+    /// produce is asked at each call, which is refused with `State` where it is none.
+    ///
+    /// ```
+    /// use balehasp::{Pieces, Refusal, PIECES};
+    /// let mut pieces = Pieces::from_bytes([1; PIECES]);
+    /// assert_eq!(pieces.piece(&[1, 0]), Err(Refusal::State));
+    /// assert_eq!(pieces, Pieces::from_bytes([1; PIECES]));
+    /// ```
+    #[must_use]
+    pub const fn from_bytes(stored: [u8; PIECES]) -> Self {
+        Self(stored)
+    }
+
+    /// What is to be stored: the bytes so far and zeros after them, [`LONGEST_LISTING`] in all, then how many they are as two
+    /// bytes, low first, then the refusal's number as two bytes, 0 for none.
+    ///
+    /// ```
+    /// let mut pieces = balehasp::Pieces::new();
+    /// pieces.piece(&[1, 0, 2])?;
+    /// assert_eq!(pieces.as_bytes()[..4], [1, 0, 2, 0]);
+    /// assert_eq!(pieces.as_bytes()[2072..], [3, 0, 0, 0]);
+    /// # Ok::<(), balehasp::Refusal>(())
+    /// ```
+    #[must_use]
+    pub const fn as_bytes(&self) -> &[u8; PIECES] {
+        &self.0
+    }
+
+    /// Takes the next bytes, or none.
+    /// Refused: `State` first; a refusal that has come before; then `Limits` where these bytes bring the second one of a count
+    /// outside its limits, `Function` where they complete functions that are not all known, `After` where they bring the first
+    /// one after the patterns, in the order in which the sections are read.
+    ///
+    /// ```
+    /// use balehasp::{Pieces, Refusal};
+    /// assert_eq!(Pieces::new().piece(&[1, 0, 11, 0]), Err(Refusal::Function));
+    /// ```
+    pub fn piece(&mut self, bytes: &[u8]) -> Result<(), Refusal> {
+        // SAFETY: the state lives through the call and is lent to it alone; a slice's pointer and length are its own.
+        let refusal = unsafe { balehasp_piece(&mut self.0, bytes.as_ptr(), bytes.len()) };
+        Refusal::unless(refusal, ())
+    }
+
+    /// Says that the listing has come whole, writes the answered one into the first bytes of `output`, and says how many they
+    /// are. [`LONGEST_ANSWERED`] bytes are room for every one: a listing that was refused for its room is lost.
+    /// Refused: `State` first; a refusal that has come before; then `Cut`, then `Output`.
+    ///
+    /// ```
+    /// use balehasp::{Pieces, Refusal};
+    /// assert_eq!(Pieces::new().end(&mut []), Err(Refusal::Cut));
+    /// ```
+    #[must_use = "a refused listing writes nothing"]
+    pub fn end(&mut self, output: &mut [u8]) -> Result<usize, Refusal> {
+        let mut written = 0;
+        // SAFETY: as in `piece`; the output and the place are lent to the call alone.
+        let refusal = unsafe { balehasp_end(&mut self.0, output.as_mut_ptr(), output.len(), &mut written) };
+        Refusal::unless(refusal, written)
+    }
+}
+
+impl Default for Pieces {
+    fn default() -> Self {
+        Self::new()
+    }
 }
 
 // The entry's place: of the least difference, `from` or later, or the number of answers where there is none.

@@ -4,7 +4,7 @@
 use balehasp::{
     acos_pi, add, answer, answer_by_number, asin_pi, atan_pi, batch, batch_by_number, cos_pi, difference, differences, exp,
     exp2, from_f64, listing, ln, log2, multiply, negate, sided, sided_by_number, sin_pi, span, subtract, tan_pi, to_f64,
-    turn, Batched, Function, Real, Refusal, Side, Sided, Span, LONGEST_ANSWERED, LONGEST_LISTING, NAR,
+    turn, Batched, Function, Pieces, Real, Refusal, Side, Sided, Span, LONGEST_ANSWERED, LONGEST_LISTING, NAR, PIECES,
 };
 use rows::{row, Row};
 use std::cmp::Ordering;
@@ -122,8 +122,9 @@ fn refusals_have_their_numbers_and_words() {
         Refusal::After,
         Refusal::Count,
         Refusal::Different,
+        Refusal::State,
     ];
-    for (number, refusal) in (1..).zip(all) {
+    for (number, refusal) in (1..=8).chain([12]).zip(all) {
         assert_eq!(refusal.number(), number);
         let error: Box<dyn std::error::Error> = Box::new(refusal);
         assert!(error.to_string().len() > 10);
@@ -276,6 +277,125 @@ fn the_longest_listing() {
     assert_eq!(one_listing(&answers, &mut noise, &bytes, LONGEST_ANSWERED - 1), Err(Refusal::Output));
     bytes.push(0);
     assert_eq!(one_listing(&answers, &mut noise, &bytes, LONGEST_ANSWERED), Err(Refusal::After));
+}
+
+/// After how many bytes of a listing a piece of it is refused, and with what. It is the shortest beginning that no more bytes can
+/// mend: every longer one is refused for the same.
+fn model_deciding(input: &[u8]) -> Option<(usize, Refusal)> {
+    (1..=input.len()).find_map(|n| {
+        let refusal = match model_sections(&input[..n]) {
+            Ok((_, rest)) => (!rest.is_empty()).then_some(Refusal::After),
+            Err(Refusal::Cut) => None,
+            Err(refusal) => Some(refusal),
+        };
+        refusal.map(|refusal| (n, refusal))
+    })
+}
+
+fn model_stored(bytes: &[u8], refusal: u16) -> [u8; PIECES] {
+    let mut stored = [0; PIECES];
+    stored[..bytes.len()].copy_from_slice(bytes);
+    stored[LONGEST_LISTING..][..2].copy_from_slice(&(bytes.len() as u16).to_le_bytes());
+    stored[LONGEST_LISTING + 2..].copy_from_slice(&refusal.to_le_bytes());
+    stored
+}
+
+/// A listing in pieces of these sizes, the rest being the last, with every call held to the model.
+fn one_cutting(answers: &Answers, noise: &mut Noise, input: &[u8], sizes: &[usize], room: usize) -> Result<usize, Refusal> {
+    let decided = model_deciding(input);
+    let mut pieces = Pieces::new();
+    let mut came = 0;
+    for size in sizes.iter().copied().chain([input.len()]) {
+        let piece = &input[came..][..size.min(input.len() - came)];
+        came += piece.len();
+        let wants = decided.filter(|&(n, _)| n <= came).map_or(Ok(()), |(_, refusal)| Err(refusal));
+        assert_eq!(pieces.piece(piece), wants, "{input:x?} after {came} bytes");
+        let stored = wants.map_or_else(|refusal| model_stored(&[], refusal.number()), |()| model_stored(&input[..came], 0));
+        assert_eq!(pieces.as_bytes(), &stored, "{input:x?} after {came} bytes");
+        if noise.below(8) == 0 {
+            pieces = Pieces::from_bytes(*pieces.clone().as_bytes());
+        }
+    }
+    let mut output: Vec<u8> = (0..room).map(|_| noise.next() as u8).collect();
+    let mut right = output.clone();
+    let outcome = model_listing(answers, input, room).map(|answered| {
+        right[..answered.len()].copy_from_slice(&answered);
+        answered.len()
+    });
+    assert_eq!(pieces.end(&mut output), outcome, "{input:x?} in {room} bytes");
+    assert_eq!(output, right, "{input:x?} in {room} bytes");
+    assert_eq!(pieces.as_bytes(), &model_stored(&[], outcome.map_or_else(Refusal::number, |_| 0)));
+    if let Err(refusal) = outcome {
+        let stored = pieces.clone();
+        assert_eq!(pieces.piece(&input[..input.len().min(3)]), Err(refusal));
+        assert_eq!(pieces.end(&mut output), Err(refusal));
+        assert_eq!((pieces, output), (stored, right));
+    }
+    outcome
+}
+
+#[test]
+fn listings_in_pieces() {
+    let answers = Answers::read();
+    let mut noise = Noise(7);
+    let mut given = [0; 7];
+    let mut calls = 0;
+    for round in 0..PAIRS {
+        let (functions, patterns) = (1 + noise.below(10), noise.below(12));
+        let mut bytes = some_listing(&mut noise, functions, patterns);
+        match noise.below(10) {
+            0 => bytes.truncate(noise.below(bytes.len())),
+            1 => bytes.extend([7; 3].iter().take(1 + noise.below(3))),
+            2 => bytes[noise.below(2)] = noise.next() as u8,
+            3 => bytes[2 + noise.below(2)] = noise.next() as u8,
+            4 => bytes[2 + 2 * functions + noise.below(2)] ^= 1 << noise.below(8),
+            _ => {}
+        }
+        let sizes: Vec<usize> = match round % 16 {
+            0 => vec![1; bytes.len()],
+            _ => (0..noise.below(7)).map(|_| noise.below(bytes.len() + 1) / 2).collect(),
+        };
+        let long = bytes.len() + 2 + 2 * functions * patterns;
+        let room = if noise.below(4) == 0 { noise.below(long) } else { long + noise.below(9) };
+        calls += sizes.len() + 2;
+        let outcome = one_cutting(&answers, &mut noise, &bytes, &sizes, room);
+        given[outcome.map_or_else(|refusal| usize::from(refusal.number()), |_| 0)] += 1;
+    }
+    assert!((0..7).all(|number| (number == 3) == (given[number] <= PAIRS / 100)), "{given:?}");
+    let mut longest = some_listing(&mut noise, 10, 1024);
+    let bytewise = vec![1; LONGEST_LISTING];
+    assert_eq!(one_cutting(&answers, &mut noise, &longest, &bytewise, LONGEST_ANSWERED), Ok(LONGEST_ANSWERED));
+    longest.extend([0; 9]);
+    assert_eq!(one_cutting(&answers, &mut noise, &longest, &[2000], LONGEST_ANSWERED), Err(Refusal::After));
+    println!("{PAIRS} cuttings of random and damaged listings, {calls} calls, as the model's; answered, refused by 1 to 6: {given:?}");
+}
+
+#[test]
+fn states_that_no_calls_produce() {
+    let mut noise = Noise(8);
+    let mut forged = 0;
+    let mut states: Vec<[u8; PIECES]> = (3..=u16::MAX).step_by(97).chain([3, 7, 8, 9, 12, 256]).map(|refusal| model_stored(&[], refusal)).collect();
+    states.extend([1, 2, 4, 5, 6].map(|refusal| model_stored(&[1], refusal)));
+    states.extend([&[0, 0][..], &[11, 0], &[1, 0, 0, 0], &[1, 0, 2, 0, 1, 4], &[1, 0, 2, 0, 0, 0, 0]].map(|bytes| model_stored(bytes, 0)));
+    for at in 0..LONGEST_LISTING {
+        let mut stored = model_stored(&[], 0);
+        stored[at] = 1 + (noise.next() % 255) as u8;
+        states.push(stored);
+    }
+    for count in [2073u16, 2076, 4096, u16::MAX] {
+        let mut stored = model_stored(&[1, 0], 0);
+        stored[LONGEST_LISTING..][..2].copy_from_slice(&count.to_le_bytes());
+        states.push(stored);
+    }
+    for stored in states {
+        let mut pieces = Pieces::from_bytes(stored);
+        let mut output = [7; 64];
+        assert_eq!(pieces.piece(&[1, 0]), Err(Refusal::State));
+        assert_eq!(pieces.end(&mut output), Err(Refusal::State));
+        assert_eq!((pieces.as_bytes(), output), (&stored, [7; 64]));
+        forged += 1;
+    }
+    println!("{forged} states that no calls produce: refused with 12, and as they were");
 }
 
 /// What an answered listing asks, and its answers. One count of answers alone is within limits; another is `Count`.

@@ -17,8 +17,8 @@ use Rattle.sections.specs.Sections.{pastSection, functionsOf, patternsOf, pastP
 use Rattle.sections.specs.Order.{mostFunctions, mostPatterns, sectionsRefusal}
 use Rattle.sections.proofs.Counts.{length-functions, length-patterns}
 use Rattle.sections.proofs.Sound.{Sound, sound-of}
+use Rattle.listing.specs.Longest.{longestAnswered}
 use Rattle.listing.proofs.Long.{sound-short}
-use Rattle.listing.proofs.Room.{longestAnswered}
 use Rattle.listing.proofs.Prefix.{number-same, sections-same}
 use Rattle.answered.specs.Answered.{asks, answeredRefusal, pairRefusal}
 use Rattle.answered.proofs.Complete.{Complete, complete-of, sections-first, count-wrong, bytes-after}

@@ -1,5 +1,5 @@
 -- How long listings get: none is longer than 2,072 bytes.
-use Prim.Native.Nat.{ℕ, _+_, _*_, _≤_, _<_}
+use Prim.Native.Nat.{ℕ, _≤_, _<_}
 use mathlib.Core.Path.{_≡_, refl}
 use mathlib.Core.Bool.{Bool, true, false}
 use mathlib.Core.List.{List}
@@ -7,14 +7,11 @@ use native.Mathlib.Omega.{arith}
 use lib.ListN.{length}
 use Rattle.refusals.specs.Refusals.{isNone}
 use Rattle.sections.specs.Sections.{functionsOf, patternsOf, pastPatterns}
-use Rattle.sections.specs.Order.{mostFunctions, mostPatterns}
 use Rattle.sections.proofs.Counts.{length-functions, length-patterns, past-is}
 use Rattle.sections.proofs.Sound.{Sound}
+use Rattle.listing.specs.Longest.{longest}
 use Rattle.listing.specs.Outcome.{refusalOf}
 use Rattle.listing.proofs.Calls.{accepted-of}
-
-abbrev pub longest : ℕ
-longest = 4 + 2 * mostFunctions + 2 * mostPatterns
 
 pub sound-short : (b : List ℕ) → Sound b → pastPatterns b ≤ longest
 sound-short b s =

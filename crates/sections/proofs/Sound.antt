@@ -91,7 +91,7 @@ counted-of b r s e n w =
 pub none-of : (b : List ℕ) (r : Refusal) (s : Sections) → s ≡ counted b r → isNone (s .refusal) ≡ true → isNone r ≡ true
 none-of b r s e n = sym (ap (λ (t : Sections). isNone (t .refusal)) e) ∙ n
 
--- what a call has that reads the two sections and goes on, since they are not refused
+-- what a call has that reads the two sections and goes on, since it does not refuse them
 pub record Read (b : List ℕ) (s : Sections) : Type 0 where
   pub sound : Sound b
   pub counts : Counted b s
@@ -99,11 +99,9 @@ pub record Read (b : List ℕ) (s : Sections) : Type 0 where
   pub past : pastPatterns b ≡ 4 + 2 * s .functions + 2 * s .patterns
   pub within : pastPatterns b ≤ length b
 
-pub read : (b : List ℕ) (s : Sections) → s ≡ sectionsOf b → isNone (s .refusal) ≡ true → Read b s
-read b s e n =
-    let none = none-of b (sectionsRefusal b) s e n in
-    let w = sound-of b none in
-    let c = counted-of b (sectionsRefusal b) s e none w in
+pub read-by : (b : List ℕ) (r : Refusal) (s : Sections) → s ≡ counted b r → isNone r ≡ true → Sound b → Read b s
+read-by b r s e n w =
+    let c = counted-of b r s e n w in
     record {
       sound = w;
       counts = c;
@@ -111,3 +109,8 @@ read b s e n =
       past = past-is b (s .functions) (s .patterns) (c .functions) (c .patterns);
       within = sections-within b w;
     }
+
+pub read : (b : List ℕ) (s : Sections) → s ≡ sectionsOf b → isNone (s .refusal) ≡ true → Read b s
+read b s e n =
+    let none = none-of b (sectionsRefusal b) s e n in
+    read-by b (sectionsRefusal b) s e none (sound-of b none)

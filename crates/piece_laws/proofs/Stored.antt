@@ -1,0 +1,1 @@
+-- "all zeros being fresh".

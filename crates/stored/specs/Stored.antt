@@ -1,0 +1,20 @@
+-- "with this layout: the bytes so far and zeros after them (2,072 ..), then how many they are as two bytes, low first, then the
+-- refusal as two bytes"; "all zeros being fresh".
+use Prim.Native.Nat.{ℕ}
+use mathlib.Core.List.{List, _++_}
+use mathlib.Core.Bool.{cond}
+use lib.ListN.{take}
+use Rattle.refusals.specs.declared.Refusal.{Refusal}
+use Rattle.refusals.specs.Refusals.{numberOf, refusalNumbered, isState}
+use Rattle.words.specs.Numbers.{bytesOf, numberAt}
+use Rattle.pieces.specs.declared.Pieces.{Pieces}
+
+unfoldable pub stateIn : List ℕ → Pieces
+stateIn b = record { bytes = take 2072 b; count = numberAt b 2072; refusal = refusalNumbered (numberAt b 2074) }
+
+unfoldable pub layout : Pieces → List ℕ
+layout s = s .bytes ++ (bytesOf (s .count) ++ bytesOf (numberOf (s .refusal)))
+
+-- "12 .. is handed back as given"
+abbrev pub handedBack : Pieces → Refusal → List ℕ → List ℕ
+handedBack s r given = cond (isState r) given (layout s)
