@@ -1,2 +1,4 @@
 pub mod SoFar
 pub mod Kept
+pub mod Calls
+pub mod Joined

@@ -23,7 +23,7 @@ use Rattle.listing.proofs.Calls.{sections-first, bytes-after, accepted}
 use Rattle.listing.proofs.Long.{sound-short, long-refused}
 use Rattle.listing.proofs.Room.{answered-short}
 use Rattle.listing.proofs.Prefix.{long-decided}
-use Rattle.pieces.specs.State.{soFar}
+use Rattle.pieces.specs.State.{soFar, afterMore}
 
 -- where the listing call does not say that bytes are cut short, it says the same of them so far
 pub not-cut : (b : List ℕ) (r : Refusal) → refusalOf b longestAnswered ≡ r → isCut r ≡ false → soFar b ≡ r
@@ -73,7 +73,7 @@ module _ (first rest : List ℕ) (full : length first ≡ longest) (more : 0 < l
   same : sectionsRefusal all ≡ sectionsRefusal first
   same = sections-grow first rest (long-decided first (omega arith))
 
-  by : (t u : Bool) → isNone (sectionsRefusal first) ≡ t → ltb (pastPatterns first) (length first) ≡ u → soFar all ≡ cond (isNone (soFar first)) After (soFar first)
+  by : (t u : Bool) → isNone (sectionsRefusal first) ≡ t → ltb (pastPatterns first) (length first) ≡ u → soFar all ≡ afterMore (soFar first)
   by false u e f =
       let r = sectionsRefusal first in
       let short = sections-first first longestAnswered r refl e in
@@ -87,9 +87,9 @@ module _ (first rest : List ℕ) (full : length first ≡ longest) (more : 0 < l
       let s' = sound-of all (ap isNone same ∙ e) in
       sound-after all s' (omega (arith, sound-short first s)) ∙ sym (either s u f)
     where
-      either : Sound first → (u : Bool) → ltb (pastPatterns first) (length first) ≡ u → cond (isNone (soFar first)) After (soFar first) ≡ After
+      either : Sound first → (u : Bool) → ltb (pastPatterns first) (length first) ≡ u → afterMore (soFar first) ≡ After
       either s true f = rw (sound-after first s (ltb-true (pastPatterns first) (length first) f))
       either s false f = rw (sound-so-far first s (ltb-false (pastPatterns first) (length first) f))
 
-  pub too-long : soFar all ≡ cond (isNone (soFar first)) After (soFar first)
+  pub too-long : soFar all ≡ afterMore (soFar first)
   too-long = by (isNone (sectionsRefusal first)) (ltb (pastPatterns first) (length first)) refl refl

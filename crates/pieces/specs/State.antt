@@ -25,6 +25,10 @@ freshState = keeping [] None
 unfoldable pub soFar : List ℕ → Refusal
 soFar b = cond (isCut (refusalOf b longestAnswered)) None (refusalOf b longestAnswered)
 
+-- and with more bytes after them than any listing has
+abbrev pub afterMore : Refusal → Refusal
+afterMore r = cond (isNone r) After r
+
 -- the state once these bytes have come: refused, it keeps none of them
 unfoldable pub stateAfter : List ℕ → Pieces
 stateAfter b = cond (isNone (soFar b)) (keeping b None) (keeping [] (soFar b))
@@ -38,17 +42,20 @@ abbrev pub allZero : List ℕ → Bool
 allZero [] = true
 allZero (x ∷ xs) = eqb x 0 && allZero xs
 
+abbrev pub ofListing : Refusal → Bool
+ofListing None = false
+ofListing Function = true
+ofListing Output = true
+ofListing Start = false
+ofListing Cut = true
+ofListing Limits = true
+ofListing After = true
+ofListing Count = false
+ofListing Different = false
+ofListing State = false
+
 abbrev pub mayKeep : Refusal → List ℕ → Bool
-mayKeep None b = isNone (soFar b)
-mayKeep Function b = eqb (length b) 0
-mayKeep Output b = eqb (length b) 0
-mayKeep Cut b = eqb (length b) 0
-mayKeep Limits b = eqb (length b) 0
-mayKeep After b = eqb (length b) 0
-mayKeep Start b = false
-mayKeep Count b = false
-mayKeep Different b = false
-mayKeep State b = false
+mayKeep r b = cond (isNone r) (isNone (soFar b)) (ofListing r && eqb (length b) 0)
 
 unfoldable pub produced : Pieces → Bool
 produced s = leb (s .count) longest && (allZero (drop (s .count) (s .bytes)) && mayKeep (s .refusal) (bytesSoFar s))

@@ -4,7 +4,7 @@ ghost use mathlib.Core.List.{[]};
 ghost use Prim.Native.Nat.{_≤_};
 ghost use lib.ListN.{length, drop};
 ghost use Rattle.refusals.specs.declared.Refusal.the-variants.{None};
-ghost use Rattle.pieces.specs.State.{keeping, soFar, allZero, mayKeep};
+ghost use Rattle.pieces.specs.State.{keeping, soFar, allZero, ofListing, mayKeep, afterMore};
 ghost use Rattle.pieces.specs.Calls.{handedIn, pieceOf, endOf, endOutputOf};
 use refusals::Refusal;
 use refusals::number;
@@ -136,12 +136,30 @@ fn zeros_from(bytes: &[u8], from: usize) -> bool
 fn may_keep(refusal: Refusal, bytes: &[u8]) -> bool
     ensures { λ r. ⌜ r ≡ mayKeep refusal (now (bytes .entry)) ⌝ }
 {
+    if number(refusal) == 0 {
+        return number(so_far(bytes)) == 0;
+    }
+    if of_listing(refusal) {
+        return bytes.len() == 0;
+    }
+    false
+}
+
+// Whether the listing call gives this refusal.
+fn of_listing(refusal: Refusal) -> bool
+    ensures { λ r. ⌜ r ≡ ofListing refusal ⌝ }
+{
     match refusal {
-        Refusal::None => number(so_far(bytes)) == 0,
-        Refusal::Function | Refusal::Output | Refusal::Cut | Refusal::Limits | Refusal::After => {
-            bytes.len() == 0
-        }
-        _ => false,
+        Refusal::None => false,
+        Refusal::Function => true,
+        Refusal::Output => true,
+        Refusal::Start => false,
+        Refusal::Cut => true,
+        Refusal::Limits => true,
+        Refusal::After => true,
+        Refusal::Count => false,
+        Refusal::Different => false,
+        Refusal::State => false,
     }
 }
 
@@ -151,14 +169,16 @@ fn so_far(bytes: &[u8]) -> Refusal
 {
     let found = listing::read_listing(bytes, LONGEST_ANSWERED);
     let refusal = found.refusal;
-    match refusal {
-        Refusal::Cut => Refusal::None,
-        _ => refusal,
+    if number(refusal) == 4 {
+        return Refusal::None;
     }
+    refusal
 }
 
-// The refusal of bytes that are more than a listing has, by the first of them, as many as the longest listing has.
-fn too_long(first: &[u8]) -> Refusal {
+// The refusal of bytes that are more than any listing has, by the first of them, as many as the longest listing has.
+fn too_long(first: &[u8]) -> Refusal
+    ensures { λ r. ⌜ r ≡ afterMore (soFar (now (first .entry))) ⌝ }
+{
     let refusal = so_far(first);
     if number(refusal) == 0 {
         return Refusal::After;

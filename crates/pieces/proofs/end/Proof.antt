@@ -1,0 +1,90 @@
+-- `pieces::end` meets its contract: the state's refusal, or the listing call on the bytes so far.
+use borrow.Author.Needs.{needs}
+use Prim.Native.Nat.{_≤_}
+use mathlib.Core.Path.{_≡_, sym, ap, _∙_}
+use mathlib.Core.Bool.{true}
+use native.Mathlib.Omega.{arith}
+use denote.Ref.{now}
+use lib.ListN.{length}
+use lib.Seq.{length-take-le}
+use Rattle.refusals.specs.declared.Refusal.{Refusal}
+use Rattle.refusals.specs.Refusals.{isNone}
+use Rattle.refusals.proofs.Refusing.{refuses, accepts}
+use Rattle.pieces.specs.declared.Pieces.{Pieces}
+use Rattle.pieces.specs.Calls.{handedIn}
+use Rattle.pieces.proofs.Kept.{brings-none}
+use Rattle.pieces.proofs.Calls.{refused-end, taken-end, endedWith}
+use Rattle.pieces.proofs.end.Statement.{statement}
+use Rattle.pieces.proofs.end.Tie as tie
+
+handed-in-requires : tie.Need-handed-in-requires
+handed-in-requires c κs = search needs
+
+number-requires : tie.Need-number-requires
+number-requires c κs = search needs
+
+returns : tie.Need-returns
+returns c =
+    let a = c .before .before .before .before .args in
+    let r = c .before .before .handed-in in
+    let n = c .before .number in
+    let q = refused-end (a .state) (now (a .output)) (ap isNone (sym (r .ensures)) ∙ refuses (r .result) (n .result) (n .ensures) (c .if1 .taken)) in
+    (ap (λ (x : Refusal). record { state = a .state; written = 0; refusal = x }) (r .ensures) ∙ sym (q .0), sym (q .1))
+
+module _ (c : tie.Else1) where
+  abbrev s : Pieces
+  s = c .before .before .before .before .args .state
+
+  none : isNone (handedIn s) ≡ true
+  none =
+      let r = c .before .before .handed-in in
+      let n = c .before .number in
+      ap isNone (sym (r .ensures)) ∙ accepts (r .result) (n .result) (n .ensures) (c .if1 .left)
+
+  within : s .count ≤ length (s .bytes)
+  within =
+      let full : length (s .bytes) ≡ 2072 = search needs in
+      omega (arith, brings-none s none .0 .within)
+
+cast-count : tie.Need-cast-count
+cast-count c = search needs
+
+array-share-prefix-bytes : tie.Need-array-share-prefix-bytes
+array-share-prefix-bytes c = within (c .before .before)
+
+slice-aggregate-answer-listing : tie.Need-slice-aggregate-answer-listing
+slice-aggregate-answer-listing c =
+    let d = c .before .before .before in
+    sym (length-take-le (s d .count) (s d .bytes) (within d))
+
+answer-listing-requires : tie.Need-answer-listing-requires
+answer-listing-requires c κs = search needs
+
+empty-requires : tie.Need-empty-requires
+empty-requires c κs = search needs
+
+same-length : tie.Need-same-length
+same-length c = search needs
+
+returns-2 : tie.Need-returns-2
+returns-2 c =
+    let d = c .before .before .before .before .before .before .before .before in
+    let l = c .before .before .before .answer-listing in
+    let q = taken-end (s d) (none d) (now (d .before .before .before .before .args .output)) in
+    (ap (λ (x : Pieces). record { state = x; written = l .result .written; refusal = l .result .refusal }) (c .empty .ensures)
+     ∙ ap endedWith (l .ensures .0) ∙ sym (q .0), l .ensures .1 ∙ sym (q .1))
+
+pub end-spec : {M : Type 1} → statement M
+end-spec =
+    tie.close
+    (tie.spec
+    handed-in-requires
+    number-requires
+    returns
+    cast-count
+    array-share-prefix-bytes
+    slice-aggregate-answer-listing
+    answer-listing-requires
+    empty-requires
+    same-length
+    returns-2)
