@@ -8,25 +8,26 @@ use lib.ListN.{length}
 use Rattle.refusals.specs.declared.Refusal.{Refusal}
 use Rattle.refusals.specs.declared.Refusal.the-variants.{None}
 use Rattle.refusals.specs.Refusals.{isNone}
+use Rattle.refusals.proofs.Refusing.{none-is}
 use Rattle.listing.specs.Longest.{longest}
-use Rattle.listing.specs.Outcome.{refusalOf, writes, listedOf, outputOf}
+use Rattle.listing.specs.Outcome.{listedOf, outputOf}
 use Rattle.listing.proofs.Calls.{refused-call}
 use Rattle.pieces.specs.declared.Pieces.{Pieces}
 use Rattle.pieces.specs.declared.Pieced.{Pieced}
-use Rattle.pieces.specs.declared.Ended.{Ended}
-use Rattle.pieces.specs.State.{keeping, freshState, soFar, stateAfter, bytesSoFar, produced}
+use Rattle.pieces.specs.State.{keeping, freshState, soFar, stateAfter, bytesSoFar}
 use Rattle.pieces.specs.Calls.{handedIn, pieceOf, endOf, endOutputOf}
+use Rattle.pieces.proofs.Calls.{endedWith, refused-piece, refused-end, refused-output, taken-piece, taken-end, taken-output}
 use Rattle.piece_laws.specs.Sequences.{Call, piece, end, stateBy, run, pieces, joined}
 use Rattle.piece_laws.proofs.Growing.{met-whole, met-stays}
-use Rattle.piece_laws.proofs.Produced.{kept-bytes, kept-refusal, brings, after-produced}
+use Rattle.piece_laws.proofs.Produced.{nothing-yet, kept-bytes, kept-refusal, brings, after-produced}
 
 -- the state after bytes that have met nothing, and after bytes that have met a refusal
 module _ (b : List ℕ) where
-  none-after : isNone (soFar b) ≡ true → stateAfter b ≡ keeping b None
+  pub none-after : isNone (soFar b) ≡ true → stateAfter b ≡ keeping b None
   unfolding stateAfter
   none-after n = rw n
 
-  met-after : isNone (soFar b) ≡ false → stateAfter b ≡ keeping [] (soFar b)
+  pub met-after : isNone (soFar b) ≡ false → stateAfter b ≡ keeping [] (soFar b)
   unfolding stateAfter
   met-after n = rw n
 
@@ -34,33 +35,12 @@ module _ (b : List ℕ) where
   pub after-brings : handedIn (stateAfter b) ≡ soFar b
   after-brings = brings (stateAfter b) (after-produced b) ∙ go (isNone (soFar b)) refl
     where
-      none-is : (r : Refusal) → isNone r ≡ true → None ≡ r
-      none-is r e = absurd _
       go : (t : Bool) → isNone (soFar b) ≡ t → stateAfter b .refusal ≡ soFar b
-      go true e = ap (λ (s : Pieces). s .refusal) (none-after e) ∙ kept-refusal b None ∙ none-is (soFar b) e
+      go true e = ap (λ (s : Pieces). s .refusal) (none-after e) ∙ kept-refusal b None ∙ sym (none-is (soFar b) e)
       go false e = ap (λ (s : Pieces). s .refusal) (met-after e) ∙ kept-refusal [] (soFar b)
-
--- a call whose state brings a refusal, and one whose state brings none
-module _ (s : Pieces) where
-  pub refused-piece : (p : List ℕ) → isNone (handedIn s) ≡ false → pieceOf s p ≡ record { state = s; refusal = handedIn s }
-  unfolding pieceOf
-  refused-piece p n = rw n
-
-  pub refused-end : (output : List ℕ) → isNone (handedIn s) ≡ false
-      → (endOf s (length output) ≡ record { state = s; written = 0; refusal = handedIn s }) × (endOutputOf s output ≡ output)
-  unfolding endOf endOutputOf
-  refused-end output n = (rw n, rw n)
-
-  taken-piece : (p : List ℕ) → isNone (handedIn s) ≡ true → pieceOf s p ≡ record { state = stateAfter (bytesSoFar s ++ p); refusal = soFar (bytesSoFar s ++ p) }
-  unfolding pieceOf
-  taken-piece p n = rw n
 
 abbrev pieced : List ℕ → Pieced
 pieced b = record { state = stateAfter b; refusal = soFar b }
-
--- the listing call's outcome on the whole, and the state that keeps its refusal
-abbrev pub wholeOf : List ℕ → ℕ → Ended
-wholeOf b outputs = record { state = keeping [] (listedOf b outputs .refusal); written = listedOf b outputs .written; refusal = listedOf b outputs .refusal }
 
 module _ (b : List ℕ) where
   -- one piece more
@@ -69,7 +49,7 @@ module _ (b : List ℕ) where
     where
       go : (t : Bool) → isNone (soFar b) ≡ t → pieceOf (stateAfter b) p ≡ pieced (b ++ p)
       go true e =
-          taken-piece (stateAfter b) p (ap isNone (after-brings b) ∙ e)
+          taken-piece (stateAfter b) (ap isNone (after-brings b) ∙ e) p
           ∙ ap (λ (l : List ℕ). pieced (l ++ p)) (ap bytesSoFar (none-after b e) ∙ kept-bytes b None)
       go false e =
           let same = met-stays b e p in
@@ -78,25 +58,26 @@ module _ (b : List ℕ) where
           refused-piece (stateAfter b) p (ap isNone (after-brings b) ∙ e) ∙ rw (after-brings b, state, same)
 
   -- the end
-  pub end-after : (output : List ℕ) → (endOf (stateAfter b) (length output) ≡ wholeOf b (length output)) × (endOutputOf (stateAfter b) output ≡ outputOf b output)
-  unfolding endOf endOutputOf
+  pub end-after : (output : List ℕ) → (endOf (stateAfter b) (length output) ≡ endedWith (listedOf b (length output))) × (endOutputOf (stateAfter b) output ≡ outputOf b output)
   end-after output = go (isNone (soFar b)) refl
     where
       go : (t : Bool) → isNone (soFar b) ≡ t
-          → (endOf (stateAfter b) (length output) ≡ wholeOf b (length output)) × (endOutputOf (stateAfter b) output ≡ outputOf b output)
+          → (endOf (stateAfter b) (length output) ≡ endedWith (listedOf b (length output))) × (endOutputOf (stateAfter b) output ≡ outputOf b output)
       go true e =
           let n = ap isNone (after-brings b) ∙ e in
-          let same : bytesSoFar (stateAfter b) ≡ b = ap bytesSoFar (none-after b e) ∙ kept-bytes b None in
-          (rw (n, same), rw (n, same))
+          let same : bytesSoFar (stateAfter b) ≡ b = ap bytesSoFar (none-after b e) ∙ kept-bytes b None in (
+            taken-end (stateAfter b) n (length output) ∙ ap (λ (l : List ℕ). endedWith (listedOf l (length output))) same,
+            taken-output (stateAfter b) n output ∙ ap (λ (l : List ℕ). outputOf l output) same,
+          )
       go false e =
           let n = ap isNone (after-brings b) ∙ e in
-          let whole = met-whole b e (length output) in
-          let q = refused-call b output (soFar b) whole e in
-          let r = refused-end (stateAfter b) output n in
-          (r .0 ∙ rw (after-brings b, met-after b e, ← q .0), r .1 ∙ q .1)
+          let q = refused-call b output (soFar b) (met-whole b e (length output)) e in (
+            refused-end (stateAfter b) (length output) n ∙ rw (after-brings b, met-after b e) (ap endedWith (q .0)),
+            refused-output (stateAfter b) output n ∙ q .1,
+          )
 
-fresh-after : stateAfter [] ≡ freshState
-fresh-after = none-after [] refl
+pub fresh-after : stateAfter [] ≡ freshState
+fresh-after = none-after [] (ap isNone nothing-yet)
 
 -- any pieces, from a fresh state
 pub pieces-give : (ps : List (List ℕ)) → run freshState (pieces ps) ≡ stateAfter (joined ps)
@@ -111,7 +92,7 @@ pieces-give ps = ap (λ (s : Pieces). run s (pieces ps)) (sym fresh-after) ∙ g
 pub however-cut : (ps : List (List ℕ)) (p output : List ℕ)
     → let s = run freshState (pieces ps) in
     (pieceOf s p .refusal ≡ soFar (joined ps ++ p))
-    × (endOf s (length output) ≡ wholeOf (joined ps) (length output))
+    × (endOf s (length output) ≡ endedWith (listedOf (joined ps) (length output)))
     × (endOutputOf s output ≡ outputOf (joined ps) output)
 however-cut ps p output =
     let e = pieces-give ps in

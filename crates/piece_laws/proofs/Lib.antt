@@ -1,6 +1,6 @@
 pub mod Growing
+pub mod When
 pub mod Produced
 pub mod Cuts
-pub mod When
+pub mod Reached
 pub mod OneOutcome
-pub mod Stored

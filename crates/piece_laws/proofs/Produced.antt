@@ -24,7 +24,12 @@ use Rattle.pieces.specs.State.{keeping, freshState, soFar, stateAfter, bytesSoF
 use Rattle.pieces.specs.Calls.{handedIn, pieceOf, endOf}
 use Rattle.pieces.proofs.SoFar.{short-so-far}
 use Rattle.pieces.proofs.Kept.{all-zero, good-of, keeps, size}
+use Rattle.pieces.proofs.Calls.{refused-piece, refused-end, taken-piece, taken-end}
 use Rattle.piece_laws.specs.Sequences.{Call, piece, end, stateBy, run}
+use Rattle.piece_laws.proofs.When.{one-byte}
+
+pub nothing-yet : soFar [] ≡ None
+nothing-yet = one-byte [] (omega arith)
 
 -- what a state keeps is what it was made of
 module _ (b : List ℕ) (r : Refusal) where
@@ -52,21 +57,22 @@ brings s p = rw p
 
 -- a refusal that the listing call gives, or none, may be kept without bytes
 pub given : (b : List ℕ) (outputs : ℕ) → mayKeep (refusalOf b outputs) [] ≡ true
-unfolding refusalOf soFar
+unfolding refusalOf
 given b outputs =
     let P : Refusal → Type 0 = λ r. mayKeep r [] ≡ true in
+    let none : P None = ap isNone nothing-yet in
     let after = refusedWhen (ltb (pastPatterns b) (length b)) After in
     let short = refusedWhen (ltb outputs (length (answered (functionsOf b) (patternsOf b)))) Output in
-    before-keeps P (sectionsRefusal b) (after before short) (sections-keep P refl refl refl refl b) (λ _.
-    before-keeps P after short (when-keeps P (ltb (pastPatterns b) (length b)) After refl refl) (λ _.
-    when-keeps P (ltb outputs (length (answered (functionsOf b) (patternsOf b)))) Output refl refl))
+    before-keeps P (sectionsRefusal b) (after before short) (sections-keep P none refl refl refl b) (λ _.
+    before-keeps P after short (when-keeps P (ltb (pastPatterns b) (length b)) After none refl) (λ _.
+    when-keeps P (ltb outputs (length (answered (functionsOf b) (patternsOf b)))) Output none refl))
 
 given-so-far : (b : List ℕ) → mayKeep (soFar b) [] ≡ true
 unfolding soFar
 given-so-far b = go (isCut (refusalOf b longestAnswered))
   where
     go : (t : Bool) → mayKeep (cond t None (refusalOf b longestAnswered)) [] ≡ true
-    go true = refl
+    go true = ap isNone nothing-yet
     go false = given b longestAnswered
 
 pub after-produced : (b : List ℕ) → produced (stateAfter b) ≡ true
@@ -78,17 +84,20 @@ after-produced b = go (isNone (soFar b)) refl
     go false e = keeping-produced [] (soFar b) (omega arith) (given-so-far b)
 
 pub fresh-produced : produced freshState ≡ true
-fresh-produced = keeping-produced [] None (omega arith) (given-so-far [])
+fresh-produced = keeping-produced [] None (omega arith) (ap isNone nothing-yet)
 
 -- every call from a produced state gives one
 pub stays-produced : (s : Pieces) (c : Call) → produced s ≡ true → produced (stateBy s c) ≡ true
-unfolding pieceOf endOf
-stays-produced s (piece p) h = go (isNone (handedIn s))
+stays-produced s (piece p) h = go (isNone (handedIn s)) refl
   where
-    go : (t : Bool) → produced (cond t (record { state = stateAfter (bytesSoFar s ++ p); refusal = soFar (bytesSoFar s ++ p) }) (record { state = s; refusal = handedIn s }) .state) ≡ true
-    go true = after-produced (bytesSoFar s ++ p)
-    go false = h
-stays-produced s (end n) h = h
+    go : (t : Bool) → isNone (handedIn s) ≡ t → produced (pieceOf s p .state) ≡ true
+    go true e = rw (taken-piece s e p) (after-produced (bytesSoFar s ++ p))
+    go false e = rw (refused-piece s p e) h
+stays-produced s (end n) h = go (isNone (handedIn s)) refl
+  where
+    go : (t : Bool) → isNone (handedIn s) ≡ t → produced (endOf s n .state) ≡ true
+    go true e = rw (taken-end s e n) (keeping-produced [] (refusalOf (bytesSoFar s) n) (omega arith) (given (bytesSoFar s) n))
+    go false e = rw (refused-end s n e) h
 
 pub only-produced : (cs : List Call) → produced (run freshState cs) ≡ true
 only-produced cs = go freshState cs fresh-produced

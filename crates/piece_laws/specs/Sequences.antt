@@ -1,6 +1,7 @@
 -- "a handed-in state that no calls from a fresh one produce": calls one after the other, and the state after them.
-use Prim.Native.Nat.{ℕ}
+use Prim.Native.Nat.{ℕ, _<_}
 use mathlib.Core.List.{List, [], _∷_, _++_}
+use lib.ListN.{getD}
 use Rattle.pieces.specs.declared.Pieces.{Pieces}
 use Rattle.pieces.specs.State.{freshState}
 use Rattle.pieces.specs.Calls.{pieceOf, endOf}
@@ -17,6 +18,15 @@ stateBy s (end outputs) = endOf s outputs .state
 abbrev pub run : Pieces → List Call → Pieces
 run s [] = s
 run s (c ∷ cs) = run (stateBy s c) cs
+
+-- calls that can be made: what is in a piece are bytes
+abbrev pub Made : Call → Type 0
+Made (piece p) = (i : ℕ) → getD p i 0 < 256
+Made (end outputs) = Unit {0}
+
+abbrev pub AllMade : List Call → Type 0
+AllMade [] = Unit {0}
+AllMade (c ∷ cs) = Made c × AllMade cs
 
 -- pieces alone, and all their bytes
 abbrev pub pieces : List (List ℕ) → List Call

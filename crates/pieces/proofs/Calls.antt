@@ -1,9 +1,8 @@
 -- What a call gives whose state brings a refusal, and one whose state brings none.
-use Prim.Native.Nat.{ℕ, _+_, _-_, _≤_, _<_}
-use mathlib.Core.Path.{_≡_, refl, sym, ap, _∙_}
+use Prim.Native.Nat.{ℕ}
+use mathlib.Core.Path.{_≡_, _∙_}
 use mathlib.Core.Bool.{true, false}
 use mathlib.Core.List.{List, [], _++_}
-use lib.ListN.{length}
 use Rattle.refusals.specs.declared.Refusal.{Refusal}
 use Rattle.refusals.specs.Refusals.{isNone}
 use Rattle.refusals.proofs.Refusing.{none-is}
@@ -24,19 +23,26 @@ module _ (s : Pieces) where
   unfolding pieceOf
   refused-piece p n = rw n
 
-  pub refused-end : (output : List ℕ) → isNone (handedIn s) ≡ false
-      → (endOf s (length output) ≡ record { state = s; written = 0; refusal = handedIn s }) × (endOutputOf s output ≡ output)
-  unfolding endOf endOutputOf
-  refused-end output n = (rw n, rw n)
+  pub refused-end : (outputs : ℕ) → isNone (handedIn s) ≡ false → endOf s outputs ≡ record { state = s; written = 0; refusal = handedIn s }
+  unfolding endOf
+  refused-end outputs n = rw n
+
+  pub refused-output : (output : List ℕ) → isNone (handedIn s) ≡ false → endOutputOf s output ≡ output
+  unfolding endOutputOf
+  refused-output output n = rw n
 
   module _ (n : isNone (handedIn s) ≡ true) where
     pub taken-piece : (p : List ℕ) → pieceOf s p ≡ record { state = stateAfter (bytesSoFar s ++ p); refusal = soFar (bytesSoFar s ++ p) }
     unfolding pieceOf
     taken-piece p = rw n
 
-    pub taken-end : (output : List ℕ) → (endOf s (length output) ≡ endedWith (listedOf (bytesSoFar s) (length output))) × (endOutputOf s output ≡ outputOf (bytesSoFar s) output)
-    unfolding endOf endOutputOf
-    taken-end output = (rw n, rw n)
+    pub taken-end : (outputs : ℕ) → endOf s outputs ≡ endedWith (listedOf (bytesSoFar s) outputs)
+    unfolding endOf
+    taken-end outputs = rw n
+
+    pub taken-output : (output : List ℕ) → endOutputOf s output ≡ outputOf (bytesSoFar s) output
+    unfolding endOutputOf
+    taken-output output = rw n
 
 -- the piece call's outcome once the bytes have met a refusal, and while they have not
 pub met-piece : (b : List ℕ) (r : Refusal) → soFar b ≡ r → isNone r ≡ false → _≡_ {A = Pieced} (record { state = stateAfter b; refusal = soFar b }) (record { state = keeping [] r; refusal = r })

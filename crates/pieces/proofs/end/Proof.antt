@@ -11,9 +11,10 @@ use Rattle.refusals.specs.declared.Refusal.{Refusal}
 use Rattle.refusals.specs.Refusals.{isNone}
 use Rattle.refusals.proofs.Refusing.{refuses, accepts}
 use Rattle.pieces.specs.declared.Pieces.{Pieces}
+use Rattle.pieces.specs.declared.Ended.{Ended}
 use Rattle.pieces.specs.Calls.{handedIn}
 use Rattle.pieces.proofs.Kept.{brings-none}
-use Rattle.pieces.proofs.Calls.{refused-end, taken-end, endedWith}
+use Rattle.pieces.proofs.Calls.{endedWith, refused-end, refused-output, taken-end, taken-output}
 use Rattle.pieces.proofs.end.Statement.{statement}
 use Rattle.pieces.proofs.end.Tie as tie
 
@@ -28,8 +29,10 @@ returns c =
     let a = c .before .before .before .before .args in
     let r = c .before .before .handed-in in
     let n = c .before .number in
-    let q = refused-end (a .state) (now (a .output)) (ap isNone (sym (r .ensures)) ∙ refuses (r .result) (n .result) (n .ensures) (c .if1 .taken)) in
-    (ap (λ (x : Refusal). record { state = a .state; written = 0; refusal = x }) (r .ensures) ∙ sym (q .0), sym (q .1))
+    let m = ap isNone (sym (r .ensures)) ∙ refuses (r .result) (n .result) (n .ensures) (c .if1 .taken) in (
+      ap (λ (x : Refusal). record { state = a .state; written = 0; refusal = x }) (r .ensures) ∙ sym (refused-end (a .state) (length (now (a .output))) m),
+      sym (refused-output (a .state) (now (a .output)) m),
+    )
 
 module _ (c : tie.Else1) where
   abbrev s : Pieces
@@ -70,9 +73,11 @@ returns-2 : tie.Need-returns-2
 returns-2 c =
     let d = c .before .before .before .before .before .before .before .before in
     let l = c .before .before .before .answer-listing in
-    let q = taken-end (s d) (none d) (now (d .before .before .before .before .args .output)) in
-    (ap (λ (x : Pieces). record { state = x; written = l .result .written; refusal = l .result .refusal }) (c .empty .ensures)
-     ∙ ap endedWith (l .ensures .0) ∙ sym (q .0), l .ensures .1 ∙ sym (q .1))
+    let output = now (d .before .before .before .before .args .output) in
+    let by : (x : Pieces) → Ended = λ x. record { state = x; written = l .result .written; refusal = l .result .refusal } in (
+      ap by (c .empty .ensures) ∙ ap endedWith (l .ensures .0) ∙ sym (taken-end (s d) (none d) (length output)),
+      l .ensures .1 ∙ sym (taken-output (s d) (none d) output),
+    )
 
 pub end-spec : {M : Type 1} → statement M
 end-spec =

@@ -1,1 +1,0 @@
--- "all zeros being fresh".
