@@ -3,13 +3,13 @@ ghost use mathlib.Core.Path.{_≡_};
 ghost use lib.ListN.{length};
 ghost use Rattle.refusals.specs.Refusals.{numberOf};
 ghost use Rattle.pieces.specs.Calls.{pieceOf, endOf, endOutputOf};
-ghost use Rattle.stored.specs.Stored.{stateIn, handedBack};
+ghost use Rattle.stored.specs.Stored.{stateIn, pieceLeaves, endLeaves};
 
 // The piece's refusal. A state that no calls produce stays as it was.
 #[no_mangle]
 pub extern "C" fn balehasp_piece(state: &mut [u8; 2076], piece: &[u8]) -> u16
     ensures { λ r. ⌜ r ≡ numberOf (pieceOf (stateIn (now (state .entry))) (now (piece .entry)) .refusal) ⌝ }
-    ensures { λ r. ⌜ now (state .exit) ≡ handedBack (pieceOf (stateIn (now (state .entry))) (now (piece .entry)) .state) (pieceOf (stateIn (now (state .entry))) (now (piece .entry)) .refusal) (now (state .entry)) ⌝ }
+    ensures { λ r. ⌜ now (state .exit) ≡ pieceLeaves (now (state .entry)) (now (piece .entry)) ⌝ }
 {
     let done = pieces::piece(stored::state_in(state), piece);
     let next = done.state;
@@ -28,7 +28,7 @@ pub extern "C" fn balehasp_end(
     ensures { λ r. ⌜ r ≡ numberOf (endOf (stateIn (now (state .entry))) (length (now (output .entry))) .refusal) ⌝ }
     ensures { λ r. ⌜ now (written .exit) ≡ endOf (stateIn (now (state .entry))) (length (now (output .entry))) .written ⌝ }
     ensures { λ r. ⌜ now (output .exit) ≡ endOutputOf (stateIn (now (state .entry))) (now (output .entry)) ⌝ }
-    ensures { λ r. ⌜ now (state .exit) ≡ handedBack (endOf (stateIn (now (state .entry))) (length (now (output .entry))) .state) (endOf (stateIn (now (state .entry))) (length (now (output .entry))) .refusal) (now (state .entry)) ⌝ }
+    ensures { λ r. ⌜ now (state .exit) ≡ endLeaves (now (state .entry)) (length (now (output .entry))) ⌝ }
 {
     let done = pieces::end(stored::state_in(state), output);
     let next = done.state;

@@ -1,5 +1,5 @@
 -- "However it was cut, the answered bytes or the refusal are those of the whole listing": the cuts change nothing but the call at which
--- a refusal comes. "After a refusal every later call repeats it and writes nothing."
+-- a refusal comes.
 use Prim.Native.Nat.{ℕ}
 use mathlib.Core.Path.{_≡_, refl, sym, ap, _∙_}
 use mathlib.Core.Bool.{Bool, true, false, cond, false≢true}

@@ -59,7 +59,7 @@ module _ (s : Pieces) (full : length (s .bytes) ≡ longest) (g : Good s) where
   never : (r : Refusal) → s .refusal ≡ r → isNone r ≡ false → ofListing r ≡ false → Reached s
   never r e n f = absurd (false≢true (sym f ∙ refused-state r e n .0))
 
-  open-state : s .refusal ≡ None → s ≡ stateAfter (bytesSoFar s)
+  pub open-state : s .refusal ≡ None → s ≡ stateAfter (bytesSoFar s)
   open-state e =
       let k : isNone (soFar (bytesSoFar s)) ≡ true = subst (λ (r : Refusal). mayKeep r (bytesSoFar s) ≡ true) e (g .kept) in
       keeps s full g ∙ ap (keeping (bytesSoFar s)) e ∙ sym (none-after (bytesSoFar s) k)

@@ -1,7 +1,8 @@
--- "a handed-in state that no calls from a fresh one produce": calls one after the other, and the state after them.
+-- "a handed-in state that no calls from a fresh one produce": calls one after the other, what each is refused for, and the state after them.
 use Prim.Native.Nat.{ℕ, _<_}
 use mathlib.Core.List.{List, [], _∷_, _++_}
 use lib.ListN.{getD}
+use Rattle.refusals.specs.declared.Refusal.{Refusal}
 use Rattle.pieces.specs.declared.Pieces.{Pieces}
 use Rattle.pieces.specs.State.{freshState}
 use Rattle.pieces.specs.Calls.{pieceOf, endOf}
@@ -14,6 +15,11 @@ pub data Call : Type 0 where
 abbrev pub stateBy : Pieces → Call → Pieces
 stateBy s (piece p) = pieceOf s p .state
 stateBy s (end outputs) = endOf s outputs .state
+
+-- what a call is refused for
+abbrev pub saidBy : Pieces → Call → Refusal
+saidBy s (piece p) = pieceOf s p .refusal
+saidBy s (end outputs) = endOf s outputs .refusal
 
 abbrev pub run : Pieces → List Call → Pieces
 run s [] = s

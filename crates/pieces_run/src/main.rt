@@ -49,10 +49,14 @@ fn take_piece(state: Pieces, bytes: &[u8]) -> Pieces {
 fn end_with(state: Pieces, room: u16) -> Pieces {
     let mut output = io::large_buffer();
     let n = io::count(room as isize, &output);
-    let done = pieces::end(state, &mut output[..n]);
+    end_into(state, &mut output[..n])
+}
+
+fn end_into(state: Pieces, output: &mut [u8]) -> Pieces {
+    let done = pieces::end(state, output);
     let refusal = done.refusal;
     print_two(refusals::number(refusal), done.written as u64);
-    blocks::write_block(&output[..n]);
+    blocks::write_block(output);
     done.state
 }
 

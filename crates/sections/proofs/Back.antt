@@ -12,7 +12,7 @@ use Rattle.words.proofs.Reading.{length-numbersAt}
 use Rattle.words.proofs.Writing.{length-bytesOfAll}
 use Rattle.sections.specs.Sections.{section, sectionAt, pastSection}
 
-number-back : (p : List ℕ) (w : ℕ) (q : List ℕ) → numberAt (p ++ (bytesOf w ++ q)) (length p) ≡ w
+pub number-back : (p : List ℕ) (w : ℕ) (q : List ℕ) → numberAt (p ++ (bytesOf w ++ q)) (length p) ≡ w
 number-back p w q =
     let low : getD (p ++ (bytesOf w ++ q)) (length p) 0 ≡ w % 256 =
     ap (λ (k : ℕ). getD (p ++ (bytesOf w ++ q)) k 0) (sym (add-zero (length p))) ∙ getD-append-add p (bytesOf w ++ q) 0 0 in

@@ -8,6 +8,7 @@ use Rattle.refusals.specs.declared.Refusal.{Refusal}
 use Rattle.refusals.specs.Refusals.{numberOf, refusalNumbered, isState}
 use Rattle.words.specs.Numbers.{bytesOf, numberAt}
 use Rattle.pieces.specs.declared.Pieces.{Pieces}
+use Rattle.pieces.specs.Calls.{pieceOf, endOf}
 
 unfoldable pub stateIn : List ℕ → Pieces
 stateIn b = record { bytes = take 2072 b; count = numberAt b 2072; refusal = refusalNumbered (numberAt b 2074) }
@@ -18,3 +19,10 @@ layout s = s .bytes ++ (bytesOf (s .count) ++ bytesOf (numberOf (s .refusal)))
 -- "12 .. is handed back as given"
 abbrev pub handedBack : Pieces → Refusal → List ℕ → List ℕ
 handedBack s r given = cond (isState r) given (layout s)
+
+-- what the two calls leave where the state lies
+abbrev pub pieceLeaves : List ℕ → List ℕ → List ℕ
+pieceLeaves given p = handedBack (pieceOf (stateIn given) p .state) (pieceOf (stateIn given) p .refusal) given
+
+abbrev pub endLeaves : List ℕ → ℕ → List ℕ
+endLeaves given outputs = handedBack (endOf (stateIn given) outputs .state) (endOf (stateIn given) outputs .refusal) given
