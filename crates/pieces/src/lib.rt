@@ -63,21 +63,26 @@ pub fn piece(state: Pieces, bytes: &[u8]) -> Pieced
     let mut next = state.bytes;
     words::copy(bytes, &mut next[count..]);
     if LONGEST - count < bytes.len() {
-        let refusal = too_long(&next);
-        let state = empty(refusal);
-        return Pieced { state, refusal };
+        return met(too_long(&next));
     }
     let total = count + bytes.len();
     let refusal = so_far(&next[..total]);
     if number(refusal) != 0 {
-        let state = empty(refusal);
-        return Pieced { state, refusal };
+        return met(refusal);
     }
     let state = Pieces {
         bytes: next,
         count: total as u16,
         refusal,
     };
+    Pieced { state, refusal }
+}
+
+// What a piece call gives whose bytes meet a refusal.
+fn met(refusal: Refusal) -> Pieced
+    ensures { λ r. ⌜ r ≡ record { state = keeping [] refusal; refusal = refusal } ⌝ }
+{
+    let state = empty(refusal);
     Pieced { state, refusal }
 }
 
@@ -94,8 +99,12 @@ pub fn end(state: Pieces, output: &mut [u8]) -> Ended
     let bytes = state.bytes;
     let l = listing::answer_listing(&bytes[..count], output);
     let refusal = l.refusal;
-    let state = empty(refusal);
-    Ended { state, written: l.written, refusal }
+    let kept = empty(refusal);
+    Ended {
+        state: kept,
+        written: l.written,
+        refusal,
+    }
 }
 
 // The refusal that a state brings: State where no calls produce it, or the one that it keeps.
@@ -104,17 +113,17 @@ fn handed_in(state: Pieces) -> Refusal
 {
     let count = state.count as usize;
     let bytes = state.bytes;
-    let refusal = state.refusal;
+    let brought = state.refusal;
     if LONGEST < count {
         return Refusal::State;
     }
     if !zeros_from(&bytes, count) {
         return Refusal::State;
     }
-    if !may_keep(refusal, &bytes[..count]) {
+    if !may_keep(brought, &bytes[..count]) {
         return Refusal::State;
     }
-    refusal
+    brought
 }
 
 // Whether the bytes from the place `from` on are all zero.

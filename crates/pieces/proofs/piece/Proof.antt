@@ -13,7 +13,6 @@ use Rattle.refusals.specs.declared.Refusal.{Refusal}
 use Rattle.refusals.specs.Refusals.{isNone}
 use Rattle.refusals.proofs.Refusing.{refuses, accepts}
 use Rattle.pieces.specs.declared.Pieces.{Pieces}
-use Rattle.pieces.specs.declared.Pieced.{Pieced}
 use Rattle.pieces.specs.State.{soFar, bytesSoFar}
 use Rattle.pieces.specs.Calls.{handedIn}
 use Rattle.pieces.proofs.Kept.{Good, brings-none}
@@ -82,10 +81,6 @@ module _ (c : tie.After-copy) where
   found : {r : Refusal} → length p ≤ 2072 - s start .count → r ≡ soFar (take (s start .count + length p) whole) → soFar all ≡ r
   found h e = ap soFar (sym (next-first (s start) (full start) (good start) p left wrote h)) ∙ sym e
 
--- a result by its state
-made : {x y : Pieces} {r : Refusal} {z : Pieced} → x ≡ y → z ≡ record { state = y; refusal = r } → _≡_ {A = Pieced} (record { state = x; refusal = r }) z
-made e f = rw (e, f)
-
 cast-count : tie.Need-cast-count
 cast-count c = search needs
 
@@ -110,8 +105,8 @@ slice-aggregate-too-long c = sym (now-full (c .before .before .before))
 too-long-requires : tie.Need-too-long-requires
 too-long-requires c κs = search needs
 
-empty-requires : tie.Need-empty-requires
-empty-requires c κs = search needs
+met-requires : tie.Need-met-requires
+met-requires c κs = search needs
 
 returns-2 : tie.Need-returns-2
 returns-2 c =
@@ -119,7 +114,7 @@ returns-2 c =
     let r = c .before .too-long in
     let met : soFar (all d) ≡ r .result = next-more (s (start d)) (full (start d)) (good (start d)) (p d) (left d) (wrote d) (omega arith) ∙ sym (r .ensures) in
     let n : isNone (r .result) ≡ false = ap isNone (r .ensures) ∙ more-refused (soFar (whole d)) in
-    made (c .empty .ensures) (taken-piece (s (start d)) (none (start d)) (p d) ∙ met-piece (all d) (r .result) met n)
+    c .met .ensures ∙ sym (taken-piece (s (start d)) (none (start d)) (p d) ∙ met-piece (all d) (r .result) met n)
 
 add-total : tie.Need-add-total
 add-total c = search needs
@@ -138,8 +133,8 @@ so-far-requires c κs = search needs
 number-requires-2 : tie.Need-number-requires-2
 number-requires-2 c κs = search needs
 
-empty-requires-2 : tie.Need-empty-requires-2
-empty-requires-2 c κs = search needs
+met-requires-2 : tie.Need-met-requires-2
+met-requires-2 c κs = search needs
 
 returns-3 : tie.Need-returns-3
 returns-3 c =
@@ -147,10 +142,10 @@ returns-3 c =
     let r = c .before .before .before .so-far in
     let n = c .before .before .number2 in
     let refused = refuses (r .result) (n .result) (n .ensures) (c .before .if3 .taken) in
-    made (c .empty2 .ensures) (taken-piece (s (start d)) (none (start d)) (p d) ∙ met-piece (all d) (r .result) (found d (omega arith) (r .ensures)) refused)
+    c .met2 .ensures ∙ sym (taken-piece (s (start d)) (none (start d)) (p d) ∙ met-piece (all d) (r .result) (found d (omega arith) (r .ensures)) refused)
 
-cast-t12 : tie.Need-cast-t12
-cast-t12 c = search needs
+cast-t9 : tie.Need-cast-t9
+cast-t9 c = search needs
 
 returns-4 : tie.Need-returns-4
 returns-4 c =
@@ -159,7 +154,8 @@ returns-4 c =
     let n = c .before .number2 in
     let open-still = accepts (r .result) (n .result) (n .ensures) (c .if3 .left) in
     let kept = next-keeps (s (start d)) (full (start d)) (good (start d)) (p d) (left d) (wrote d) (omega arith) (r .result) in
-    made kept (taken-piece (s (start d)) (none (start d)) (p d) ∙ next-piece (all d) (r .result) (found d (omega arith) (r .ensures)) open-still)
+    ap (λ (x : Pieces). record { state = x; refusal = r .result }) kept
+    ∙ sym (taken-piece (s (start d)) (none (start d)) (p d) ∙ next-piece (all d) (r .result) (found d (omega arith) (r .ensures)) open-still)
 
 pub piece-spec : {M : Type 1} → statement M
 piece-spec =
@@ -176,14 +172,14 @@ piece-spec =
     sub-if2
     slice-aggregate-too-long
     too-long-requires
-    empty-requires
+    met-requires
     returns-2
     add-total
     array-share-prefix-next
     slice-aggregate-so-far
     so-far-requires
     number-requires-2
-    empty-requires-2
+    met-requires-2
     returns-3
-    cast-t12
+    cast-t9
     returns-4)
