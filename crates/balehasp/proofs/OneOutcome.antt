@@ -7,10 +7,11 @@ use lib.Dec.{T}
 use lib.Ieee.{Float}
 use Rattle.real.specs.declared.numbers.RealAnswer.{RealAnswer}
 use Rattle.real.specs.declared.numbers.RealAnswer.the-variants.{Real, NaR}
-use Rattle.real.specs.declared.spans.SpanAnswer.{SpanAnswer}
-use Rattle.real.specs.declared.spans.SpanAnswer.the-variants.{Edges}
-use Rattle.real.specs.declared.spans.SpanAnswer.the-variants as Spans
-use Rattle.real.proofs.OneAnswer.{one-real, one-span}
+use Rattle.real.proofs.OneAnswer.{one-real}
+use Rattle.spans.specs.declared.SpanAnswer.{SpanAnswer}
+use Rattle.spans.specs.declared.SpanAnswer.the-variants.{Edges}
+use Rattle.spans.specs.declared.SpanAnswer.the-variants as Spans
+use Rattle.spans.proofs.OneAnswer.{one-span}
 use Rattle.balehasp.specs.Reals.{RealOut, SpanOut, spanOf}
 
 -- whether an answer holds something, and what it holds

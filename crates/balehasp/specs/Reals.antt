@@ -6,11 +6,11 @@ use mathlib.Core.Bool.{Bool, true, false}
 use lib.Ieee.{Float}
 use Rattle.real.specs.declared.numbers.RealAnswer.{RealAnswer}
 use Rattle.real.specs.declared.numbers.RealAnswer.the-variants.{Real, NaR}
-use Rattle.real.specs.declared.spans.SpanAnswer.{SpanAnswer}
-use Rattle.real.specs.declared.spans.SpanAnswer.the-variants.{Edges}
-use Rattle.real.specs.declared.spans.SpanAnswer.the-variants as Spans
 use Rattle.real.specs.Reals.{ToF64}
-use Rattle.real.specs.Spans.{SpanOf, lowerPlace, upperPlace, edgeBits}
+use Rattle.spans.specs.declared.SpanAnswer.{SpanAnswer}
+use Rattle.spans.specs.declared.SpanAnswer.the-variants.{Edges}
+use Rattle.spans.specs.declared.SpanAnswer.the-variants as Spans
+use Rattle.spans.specs.Spans.{SpanOf, lowerPlace, upperPlace, edgeBits}
 
 abbrev pub RealOut : ℕ → Float → Bool → Float → Type 0
 RealOut p was true left = ToF64 p (Real left)

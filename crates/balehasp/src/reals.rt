@@ -26,13 +26,13 @@ pub extern "C" fn balehasp_from_f64(x: f64) -> u16
 pub extern "C" fn balehasp_span(p: u16, lower: &mut f64, upper: &mut f64, edges: &mut u8) -> bool
     ensures { λ r. ⌜ SpanOut p (now (lower .entry)) (now (upper .entry)) (now (edges .entry)) r (now (lower .exit)) (now (upper .exit)) (now (edges .exit)) ⌝ }
 {
-    let real::SpanAnswer::Edges(s) = real::span_of(p) else {
+    let spans::SpanAnswer::Edges(s) = spans::span_of(p) else {
         return false;
     };
     let start = s.start;
     let end = s.end;
     *lower = s.lower;
     *upper = s.upper;
-    *edges = real::edge_bits(start, end);
+    *edges = spans::edge_bits(start, end);
     true
 }

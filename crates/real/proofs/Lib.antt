@@ -1,12 +1,10 @@
 pub mod Short
 pub mod Exact
 pub mod Same
-pub mod Wider
 pub mod Values
 pub mod Signs
 pub mod Bits
 pub mod OneAnswer
 pub mod Order
 pub mod Mirror
-pub mod Places
 pub mod Back

@@ -1,2 +1,1 @@
 pub mod Reals
-pub mod Spans

@@ -14,8 +14,8 @@ use Rattle.posit.specs.Rounding.{dividing, Reached, Enough, Rounds, dyadic, lar
 use Rattle.posit.proofs.Compare.{Told, less, same, more, told, reached, enough}
 use Rattle.posit.proofs.Complement.{opposite-is}
 use Rattle.posit.proofs.Own.{magnitude-some}
-use Rattle.real.specs.declared.spans.Edge.{Edge}
-use Rattle.real.specs.declared.spans.Edge.the-variants.{Missing, Excluded, Included}
+use Rattle.spans.specs.declared.edges.Edge.{Edge}
+use Rattle.spans.specs.declared.edges.Edge.the-variants.{Missing, Excluded, Included}
 use Rattle.span_laws.proofs.Order.{Sized}
 use Rattle.span_laws.proofs.Readings.{scaled}
 

@@ -10,8 +10,8 @@ use lib.Dec.{T, ltb, eqb, ltb→lt, lt→ltb, eqb→eq}
 use lib.Ieee.{Float, nan, inf, fin, up, down, below, level, lt, le}
 use lib.Ieee.Fits.{and-i, and-l, and-r, eq→eqb}
 use lib.Ieee.Scale.{finite}
-use Rattle.real.specs.declared.spans.Edge.{Edge}
-use Rattle.real.specs.declared.spans.Edge.the-variants.{Missing, Excluded, Included}
+use Rattle.spans.specs.declared.edges.Edge.{Edge}
+use Rattle.spans.specs.declared.edges.Edge.the-variants.{Missing, Excluded, Included}
 use Rattle.span_laws.specs.LiesIn.{Before}
 use Rattle.span_laws.proofs.Order.{Less, AtMost, sized}
 

@@ -15,13 +15,13 @@ use Rattle.posit.proofs.Exists.{answered}
 use Rattle.posit.proofs.Laws.{never-nar}
 use Rattle.posit.proofs.Patterns.{number-zero}
 use Rattle.real.specs.Reals.{Holds}
-use Rattle.real.specs.Spans.{SpanOf, lowerPlace, upperPlace}
-use Rattle.real.specs.declared.spans.Span.{Span}
-use Rattle.real.specs.declared.spans.SpanAnswer.the-variants.{Edges}
 use Rattle.real.proofs.Exact.{scaled-magnitude}
 use Rattle.real.proofs.OneAnswer.{one-pattern}
-use Rattle.real.proofs.Places.{lower-posit, upper-posit}
 use Rattle.real.proofs.Signs.{holds-plus, holds-minus}
+use Rattle.spans.specs.Spans.{SpanOf, lowerPlace, upperPlace}
+use Rattle.spans.specs.declared.Span.{Span}
+use Rattle.spans.specs.declared.SpanAnswer.the-variants.{Edges}
+use Rattle.spans.proofs.Places.{lower-posit, upper-posit}
 use Rattle.span_laws.specs.LiesIn.{LiesIn}
 use Rattle.span_laws.proofs.Exactly.{exactly}
 

@@ -13,11 +13,11 @@ use Rattle.posit.proofs.Complement.{opposite-is}
 use Rattle.posit.proofs.Own.{magnitude-some}
 use Rattle.posit.proofs.Patterns.{number-zero, number-plus, number-minus}
 use Rattle.real.specs.Reals.{Exactly, Holds}
-use Rattle.real.specs.Spans.{at, tied, lowerPlace, upperPlace, Stands}
-use Rattle.real.specs.declared.spans.Edge.{Edge}
-use Rattle.real.specs.declared.spans.Edge.the-variants.{Missing, Excluded, Included}
-use Rattle.real.specs.declared.spans.Place.{Place}
-use Rattle.real.proofs.Places.{tied-even, tied-odd, lower-next, upper-next}
+use Rattle.spans.specs.Spans.{at, tied, lowerPlace, upperPlace, Stands}
+use Rattle.spans.specs.declared.edges.Edge.{Edge}
+use Rattle.spans.specs.declared.edges.Edge.the-variants.{Missing, Excluded, Included}
+use Rattle.spans.specs.declared.edges.Place.{Place}
+use Rattle.spans.proofs.Places.{tied-even, tied-odd, lower-next, upper-next}
 use Rattle.span_laws.proofs.Readings.{Reads, reads, minus-zero}
 use Rattle.span_laws.proofs.Above.{Least, first, from-even, from-odd, Most, last, to-even, to-odd}
 

@@ -15,12 +15,12 @@ use Rattle.posit.specs.Rounding.{Rounds, ratio, dyadic}
 use Rattle.posit.proofs.Complement.{opposite-is}
 use Rattle.posit.proofs.Laws.{never-zero}
 use Rattle.real.specs.Reals.{FromF64}
-use Rattle.real.specs.Spans.{SpanOf}
-use Rattle.real.specs.declared.spans.Edge.{Edge}
-use Rattle.real.specs.declared.spans.Edge.the-variants.{Included}
-use Rattle.real.specs.declared.spans.Span.{Span}
-use Rattle.real.specs.declared.spans.SpanAnswer.the-variants.{Edges}
 use Rattle.real.proofs.Mirror.{mirrored}
+use Rattle.spans.specs.Spans.{SpanOf}
+use Rattle.spans.specs.declared.edges.Edge.{Edge}
+use Rattle.spans.specs.declared.edges.Edge.the-variants.{Included}
+use Rattle.spans.specs.declared.Span.{Span}
+use Rattle.spans.specs.declared.SpanAnswer.the-variants.{Edges}
 use Rattle.span_laws.specs.LiesIn.{Before, LiesIn}
 use Rattle.span_laws.proofs.Order.{Sized, turned}
 use Rattle.span_laws.proofs.Readings.{scaled, reads}

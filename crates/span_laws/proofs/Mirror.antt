@@ -5,11 +5,11 @@ use native.Mathlib.Omega.{arith}
 use native.Mathlib.Decide.{ℕ-discrete}
 use Rattle.posit.specs.Number.{opposite}
 use Rattle.posit.proofs.Complement.{opposite-is, opposite-zero}
-use Rattle.real.specs.Spans.{at, tied, lowerPlace, upperPlace}
-use Rattle.real.specs.declared.spans.Edge.{Edge}
-use Rattle.real.specs.declared.spans.Edge.the-variants.{Missing, Excluded, Included}
-use Rattle.real.specs.declared.spans.Place.{Place}
-use Rattle.real.proofs.Places.{tied-alike, lower-next, upper-next}
+use Rattle.spans.specs.Spans.{at, tied, lowerPlace, upperPlace}
+use Rattle.spans.specs.declared.edges.Edge.{Edge}
+use Rattle.spans.specs.declared.edges.Edge.the-variants.{Missing, Excluded, Included}
+use Rattle.spans.specs.declared.edges.Place.{Place}
+use Rattle.spans.proofs.Places.{tied-alike, lower-next, upper-next}
 
 abbrev pub minus : Place → Place
 minus a = at (opposite 17 (a .posit)) (a .edge)

@@ -8,8 +8,8 @@ use native.Mathlib.Nat.{add-mul, zero-mul, mul-pos, mul-lt-mul-of-pos-right, mul
 use lib.Dec.{ltb→lt, lt→ltb, leb→le, le→leb}
 use lib.Signed.{_≤ℤ_, _<ℤ_}
 use Rattle.posit.specs.Number.{withSign}
-use Rattle.real.specs.declared.spans.Edge.{Edge}
-use Rattle.real.specs.declared.spans.Edge.the-variants.{Missing, Excluded, Included}
+use Rattle.spans.specs.declared.edges.Edge.{Edge}
+use Rattle.spans.specs.declared.edges.Edge.the-variants.{Missing, Excluded, Included}
 use Rattle.span_laws.specs.LiesIn.{Ordered}
 
 abbrev pub Less : Bool → ℕ → Bool → ℕ → Type 0

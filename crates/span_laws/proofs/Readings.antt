@@ -9,7 +9,7 @@ use lib.Pow.{pow-pos}
 use lib.Ieee.{Float, nan, inf, fin, up, down}
 use lib.Ieee.Exact.{HasValue}
 use lib.Ieee.Fits.{down-pos}
-use Rattle.real.specs.declared.spans.Edge.{Edge}
+use Rattle.spans.specs.declared.edges.Edge.{Edge}
 use Rattle.span_laws.specs.LiesIn.{Before}
 use Rattle.span_laws.proofs.Order.{Sized, same-order, no-sign, no-sign-first}
 

@@ -5,9 +5,9 @@ use lib.IntN.{ℤ}
 use lib.Signed.{_≤ℤ_, _<ℤ_}
 use lib.Ieee.{Float, nan, inf, fin, up, down}
 use Rattle.posit.specs.Number.{withSign}
-use Rattle.real.specs.declared.spans.Edge.{Edge}
-use Rattle.real.specs.declared.spans.Edge.the-variants.{Missing, Excluded, Included}
-use Rattle.real.specs.declared.spans.Span.{Span}
+use Rattle.spans.specs.declared.edges.Edge.{Edge}
+use Rattle.spans.specs.declared.edges.Edge.the-variants.{Missing, Excluded, Included}
+use Rattle.spans.specs.declared.Span.{Span}
 
 -- The whole number k comes before l, one of which is an edge: it is less than l, or at most l where the edge is included. Where
 -- the edge is missing nothing is asked.

@@ -2,7 +2,7 @@
 use Prim.Native.Nat.{_+_, _*_}
 use mathlib.Core.Path.{_∙_, refl, subst}
 use borrow.Author.Needs.{needs}
-use Rattle.real.specs.Spans.{SpanOf, edgeBits}
+use Rattle.spans.specs.Spans.{SpanOf, edgeBits}
 use Rattle.balehasp.proofs.reals.balehasp_span.Statement.{statement}
 use Rattle.balehasp.proofs.reals.balehasp_span.Tie as tie
 
