@@ -11,9 +11,9 @@ pub extern "C" fn balehasp_piece(state: &mut [u8; 2076], piece: &[u8]) -> u16
     ensures { λ r. ⌜ r ≡ numberOf (pieceOf (stateIn (now (state .entry))) (now (piece .entry)) .refusal) ⌝ }
     ensures { λ r. ⌜ now (state .exit) ≡ pieceLeaves (now (state .entry)) (now (piece .entry)) ⌝ }
 {
-    let done = pieces::piece(stored::state_in(state), piece);
-    let next = done.state;
-    let refusal = done.refusal;
+    let taken = pieces::piece(stored::state_in(state), piece);
+    let next = taken.state;
+    let refusal = taken.refusal;
     stored::hand_back(next, refusal, state);
     refusals::number(refusal)
 }
@@ -31,9 +31,9 @@ pub extern "C" fn balehasp_end(
     ensures { λ r. ⌜ now (state .exit) ≡ endLeaves (now (state .entry)) (length (now (output .entry))) ⌝ }
 {
     let done = pieces::end(stored::state_in(state), output);
-    let next = done.state;
+    let left = done.state;
     let refusal = done.refusal;
     *written = done.written;
-    stored::hand_back(next, refusal, state);
+    stored::hand_back(left, refusal, state);
     refusals::number(refusal)
 }

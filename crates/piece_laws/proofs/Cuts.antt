@@ -12,10 +12,10 @@ use Rattle.refusals.proofs.Refusing.{none-is}
 use Rattle.listing.specs.Longest.{longest}
 use Rattle.listing.specs.Outcome.{listedOf, outputOf}
 use Rattle.listing.proofs.Calls.{refused-call}
-use Rattle.pieces.specs.declared.Pieces.{Pieces}
+use Rattle.piece_state.specs.declared.Pieces.{Pieces}
 use Rattle.pieces.specs.declared.Pieced.{Pieced}
-use Rattle.pieces.specs.State.{keeping, freshState, soFar, stateAfter, bytesSoFar}
-use Rattle.pieces.specs.Calls.{handedIn, pieceOf, endOf, endOutputOf}
+use Rattle.piece_state.specs.State.{keeping, freshState, soFar, stateAfter, bytesSoFar, handedIn}
+use Rattle.pieces.specs.Calls.{pieceOf, endOf, endOutputOf}
 use Rattle.pieces.proofs.Calls.{endedWith, refused-piece, refused-end, refused-output, taken-piece, taken-end, taken-output}
 use Rattle.piece_laws.specs.Sequences.{Call, piece, end, stateBy, run, pieces, joined}
 use Rattle.piece_laws.proofs.Growing.{met-whole, met-stays}

@@ -17,8 +17,8 @@ use Rattle.sections.proofs.Growing.{sections-grow, ends-grow}
 use Rattle.listing.specs.Longest.{longestAnswered}
 use Rattle.listing.specs.Outcome.{refusalOf}
 use Rattle.listing.proofs.Calls.{sections-first, bytes-after}
-use Rattle.pieces.specs.State.{soFar}
-use Rattle.pieces.proofs.SoFar.{not-cut, cut-none, sound-after, sound-so-far}
+use Rattle.piece_state.specs.State.{soFar}
+use Rattle.piece_state.proofs.SoFar.{not-cut, cut-none, sound-after, sound-so-far}
 
 -- bytes that have met a refusal: one of their sections, or 6
 pub data Met (b : List ℕ) : Type 0 where
@@ -61,6 +61,7 @@ module _ (b : List ℕ) where
     where
       sound-none : Sound b → sectionsRefusal b ≡ None
       sound-none s = sound b s
+
       sound-not-cut : Sound b → isCut (sectionsRefusal b) ≡ false
       sound-not-cut s = ap isCut (sound-none s)
 

@@ -10,8 +10,8 @@ use Rattle.refusals.specs.declared.Refusal.the-variants.{None, Function, Output
 use Rattle.refusals.specs.Refusals.{numberOf, refusalNumbered}
 use Rattle.words.specs.Numbers.{bytesOf, numberAt}
 use Rattle.sections.proofs.Back.{number-back}
-use Rattle.pieces.specs.declared.Pieces.{Pieces}
-use Rattle.pieces.specs.State.{keeping, freshState}
+use Rattle.piece_state.specs.declared.Pieces.{Pieces}
+use Rattle.piece_state.specs.State.{keeping, freshState}
 use Rattle.stored.specs.Stored.{stateIn, layout}
 
 -- each refusal has its number back

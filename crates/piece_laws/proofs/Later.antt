@@ -11,12 +11,12 @@ use Rattle.refusals.specs.Refusals.{isNone}
 use Rattle.refusals.proofs.Refusing.{none-is}
 use Rattle.listing.specs.Longest.{longest}
 use Rattle.listing.specs.Outcome.{refusalOf}
-use Rattle.pieces.specs.declared.Pieces.{Pieces}
+use Rattle.piece_state.specs.declared.Pieces.{Pieces}
 use Rattle.pieces.specs.declared.Pieced.{Pieced}
 use Rattle.pieces.specs.declared.Ended.{Ended}
-use Rattle.pieces.specs.State.{keeping, freshState, soFar, stateAfter, bytesSoFar}
-use Rattle.pieces.specs.Calls.{handedIn, pieceOf, endOf, endOutputOf}
-use Rattle.pieces.proofs.Kept.{brings-none}
+use Rattle.piece_state.specs.State.{keeping, freshState, soFar, stateAfter, bytesSoFar, handedIn}
+use Rattle.pieces.specs.Calls.{pieceOf, endOf, endOutputOf}
+use Rattle.piece_state.proofs.Kept.{brings-none}
 use Rattle.pieces.proofs.Calls.{refused-piece, refused-end, refused-output, taken-piece, taken-end}
 use Rattle.piece_laws.specs.Sequences.{Call, piece, end, stateBy, saidBy, run}
 use Rattle.piece_laws.proofs.Produced.{kept-refusal, keeping-produced, brings, given}

@@ -3,7 +3,7 @@ use Prim.Native.Nat.{ℕ}
 use mathlib.Core.Path.{_≡_, sym, _∙_}
 use mathlib.Core.List.{List}
 use lib.ListN.{length}
-use Rattle.pieces.specs.declared.Pieces.{Pieces}
+use Rattle.piece_state.specs.declared.Pieces.{Pieces}
 use Rattle.pieces.specs.declared.Pieced.{Pieced}
 use Rattle.pieces.specs.declared.Ended.{Ended}
 use Rattle.pieces.specs.Calls.{pieceOf, endOf, endOutputOf}

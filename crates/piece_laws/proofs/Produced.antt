@@ -19,11 +19,11 @@ use Rattle.sections.proofs.Given.{sections-keep}
 use Rattle.listing.specs.Answered.{answered}
 use Rattle.listing.specs.Longest.{longest, longestAnswered}
 use Rattle.listing.specs.Outcome.{refusalOf}
-use Rattle.pieces.specs.declared.Pieces.{Pieces}
-use Rattle.pieces.specs.State.{keeping, freshState, soFar, stateAfter, bytesSoFar, allZero, mayKeep, produced}
-use Rattle.pieces.specs.Calls.{handedIn, pieceOf, endOf}
-use Rattle.pieces.proofs.SoFar.{short-so-far}
-use Rattle.pieces.proofs.Kept.{all-zero, good-of, keeps, size}
+use Rattle.piece_state.specs.declared.Pieces.{Pieces}
+use Rattle.piece_state.specs.State.{keeping, freshState, soFar, stateAfter, bytesSoFar, allZero, mayKeep, produced, handedIn}
+use Rattle.pieces.specs.Calls.{pieceOf, endOf}
+use Rattle.piece_state.proofs.SoFar.{short-so-far}
+use Rattle.piece_state.proofs.Kept.{all-zero, good-of, keeps, size}
 use Rattle.pieces.proofs.Calls.{refused-piece, refused-end, taken-piece, taken-end}
 use Rattle.piece_laws.specs.Sequences.{Call, piece, end, stateBy, run}
 use Rattle.piece_laws.proofs.When.{one-byte}

@@ -17,11 +17,11 @@ use Rattle.sections.proofs.Back.{Bytes}
 use Rattle.listing.specs.Answered.{listing, answered}
 use Rattle.listing.specs.Longest.{longest}
 use Rattle.listing.specs.Outcome.{refusalOf}
-use Rattle.pieces.specs.declared.Pieces.{Pieces}
+use Rattle.piece_state.specs.declared.Pieces.{Pieces}
 use Rattle.pieces.specs.declared.Ended.{Ended}
-use Rattle.pieces.specs.State.{keeping, freshState, soFar, stateAfter, bytesSoFar, ofListing, mayKeep, produced}
+use Rattle.piece_state.specs.State.{keeping, freshState, soFar, stateAfter, bytesSoFar, ofListing, mayKeep, produced}
 use Rattle.pieces.specs.Calls.{endOf}
-use Rattle.pieces.proofs.Kept.{Good, good-of, keeps, both}
+use Rattle.piece_state.proofs.Kept.{Good, good-of, keeps, both}
 use Rattle.piece_laws.specs.Sequences.{Call, piece, end, run, AllMade}
 use Rattle.piece_laws.proofs.Cuts.{none-after, met-after, pieces-give, end-after, fresh-after}
 

@@ -16,8 +16,8 @@ use Rattle.sections.proofs.Whole.{Whole, cut-count, too-few, too-many, cut-numb
 use Rattle.sections.proofs.Sound.{functions-first, unknown-next, patterns-last}
 use Rattle.listing.specs.Longest.{longestAnswered}
 use Rattle.listing.proofs.Calls.{sections-first}
-use Rattle.pieces.specs.State.{soFar}
-use Rattle.pieces.proofs.SoFar.{not-cut, cut-none}
+use Rattle.piece_state.specs.State.{soFar}
+use Rattle.piece_state.proofs.SoFar.{not-cut, cut-none}
 
 module _ (b : List ℕ) where
   -- by the refusal of the two sections

@@ -8,11 +8,11 @@ use Rattle.refusals.specs.Refusals.{isNone}
 use Rattle.refusals.proofs.Refusing.{none-is}
 use Rattle.listing.specs.Outcome.{listedOf, outputOf}
 use Rattle.listing.specs.declared.Listed.{Listed}
-use Rattle.pieces.specs.declared.Pieces.{Pieces}
+use Rattle.piece_state.specs.declared.Pieces.{Pieces}
 use Rattle.pieces.specs.declared.Pieced.{Pieced}
 use Rattle.pieces.specs.declared.Ended.{Ended}
-use Rattle.pieces.specs.State.{keeping, soFar, stateAfter, bytesSoFar}
-use Rattle.pieces.specs.Calls.{handedIn, pieceOf, endOf, endOutputOf}
+use Rattle.piece_state.specs.State.{keeping, soFar, stateAfter, bytesSoFar, handedIn}
+use Rattle.pieces.specs.Calls.{pieceOf, endOf, endOutputOf}
 
 -- the listing call's outcome, and the state that keeps its refusal
 abbrev pub endedWith : Listed → Ended

@@ -10,10 +10,10 @@ use lib.Seq.{sets, length-sets, length-take-le, take-all, take-at}
 use Rattle.refusals.specs.declared.Refusal.{Refusal}
 use Rattle.refusals.specs.Refusals.{isNone}
 use Rattle.listing.specs.Longest.{longest}
-use Rattle.pieces.specs.declared.Pieces.{Pieces}
-use Rattle.pieces.specs.State.{keeping, soFar, afterMore, bytesSoFar}
-use Rattle.pieces.proofs.SoFar.{too-long}
-use Rattle.pieces.proofs.Kept.{Good, size, rest, fits, fills}
+use Rattle.piece_state.specs.declared.Pieces.{Pieces}
+use Rattle.piece_state.specs.State.{keeping, soFar, afterMore, bytesSoFar}
+use Rattle.piece_state.proofs.SoFar.{too-long}
+use Rattle.piece_state.proofs.Kept.{Good, size, rest, fits, fills}
 
 pub more-refused : (r : Refusal) → isNone (afterMore r) ≡ false
 more-refused r = go (isNone r) refl

@@ -1,4 +1,2 @@
-pub mod SoFar
-pub mod Kept
 pub mod Calls
 pub mod Joined

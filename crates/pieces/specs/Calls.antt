@@ -3,20 +3,14 @@
 -- two calls return and leave, for any state, any bytes and any output.
 use Prim.Native.Nat.{ℕ}
 use mathlib.Core.List.{List, [], _++_}
-use mathlib.Core.Bool.{cond, not}
+use mathlib.Core.Bool.{cond}
 use lib.ListN.{length}
-use Rattle.refusals.specs.declared.Refusal.{Refusal}
-use Rattle.refusals.specs.declared.Refusal.the-variants.{State}
-use Rattle.refusals.specs.Refusals.{isNone, _before_, refusedWhen}
+use Rattle.refusals.specs.Refusals.{isNone}
 use Rattle.listing.specs.Outcome.{refusalOf, writes, outputOf}
-use Rattle.pieces.specs.declared.Pieces.{Pieces}
+use Rattle.piece_state.specs.declared.Pieces.{Pieces}
 use Rattle.pieces.specs.declared.Pieced.{Pieced}
 use Rattle.pieces.specs.declared.Ended.{Ended}
-use Rattle.pieces.specs.State.{keeping, soFar, stateAfter, bytesSoFar, produced}
-
--- "12 first"; then "After a refusal every later call repeats it and writes nothing": the refusal that a state brings
-unfoldable pub handedIn : Pieces → Refusal
-handedIn s = refusedWhen (not (produced s)) State before s .refusal
+use Rattle.piece_state.specs.State.{keeping, soFar, stateAfter, bytesSoFar, handedIn}
 
 -- the bytes so far and the next ones
 unfoldable pub pieceOf : Pieces → List ℕ → Pieced

@@ -10,7 +10,7 @@ use Rattle.refusals.specs.Refusals.{numberOf}
 use Rattle.words.specs.Numbers.{bytesOf}
 use Rattle.words.proofs.Writing.{sets-append}
 use Rattle.listing.proofs.Writing.{sets-front}
-use Rattle.pieces.specs.declared.Pieces.{Pieces}
+use Rattle.piece_state.specs.declared.Pieces.{Pieces}
 use Rattle.stored.specs.Stored.{layout}
 
 module _ (s : Pieces) (full : length (s .bytes) ≡ 2072) (was : List ℕ) (room : length was ≡ 2076) where

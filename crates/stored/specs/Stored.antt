@@ -7,7 +7,7 @@ use lib.ListN.{take}
 use Rattle.refusals.specs.declared.Refusal.{Refusal}
 use Rattle.refusals.specs.Refusals.{numberOf, refusalNumbered, isState}
 use Rattle.words.specs.Numbers.{bytesOf, numberAt}
-use Rattle.pieces.specs.declared.Pieces.{Pieces}
+use Rattle.piece_state.specs.declared.Pieces.{Pieces}
 use Rattle.pieces.specs.Calls.{pieceOf, endOf}
 
 unfoldable pub stateIn : List ℕ → Pieces

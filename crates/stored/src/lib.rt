@@ -2,7 +2,7 @@
 // 2,072 in all, how many they are, and the refusal's number.
 ghost use mathlib.Core.Path.{_≡_};
 ghost use Rattle.stored.specs.Stored.{stateIn, handedBack};
-use pieces::Pieces;
+use piece_state::Pieces;
 use refusals::Refusal;
 use words::copy;
 use words::number_at;

@@ -10,10 +10,10 @@ use lib.Seq.{length-take-le}
 use Rattle.refusals.specs.declared.Refusal.{Refusal}
 use Rattle.refusals.specs.Refusals.{isNone}
 use Rattle.refusals.proofs.Refusing.{refuses, accepts}
-use Rattle.pieces.specs.declared.Pieces.{Pieces}
+use Rattle.piece_state.specs.declared.Pieces.{Pieces}
 use Rattle.pieces.specs.declared.Ended.{Ended}
-use Rattle.pieces.specs.Calls.{handedIn}
-use Rattle.pieces.proofs.Kept.{brings-none}
+use Rattle.piece_state.specs.State.{handedIn}
+use Rattle.piece_state.proofs.Kept.{brings-none}
 use Rattle.pieces.proofs.Calls.{endedWith, refused-end, refused-output, taken-end, taken-output}
 use Rattle.pieces.proofs.end.Statement.{statement}
 use Rattle.pieces.proofs.end.Tie as tie

@@ -1,7 +1,7 @@
 -- `pieces::met` meets its contract.
 use borrow.Author.Needs.{needs}
 use mathlib.Core.Path.{ap}
-use Rattle.pieces.specs.declared.Pieces.{Pieces}
+use Rattle.piece_state.specs.declared.Pieces.{Pieces}
 use Rattle.pieces.proofs.met.Statement.{statement}
 use Rattle.pieces.proofs.met.Tie as tie
 

@@ -12,10 +12,10 @@ use lib.Seq.{sets, length-take-le}
 use Rattle.refusals.specs.declared.Refusal.{Refusal}
 use Rattle.refusals.specs.Refusals.{isNone}
 use Rattle.refusals.proofs.Refusing.{refuses, accepts}
-use Rattle.pieces.specs.declared.Pieces.{Pieces}
-use Rattle.pieces.specs.State.{soFar, bytesSoFar}
-use Rattle.pieces.specs.Calls.{handedIn}
-use Rattle.pieces.proofs.Kept.{Good, brings-none}
+use Rattle.piece_state.specs.declared.Pieces.{Pieces}
+use Rattle.piece_state.specs.State.{soFar, bytesSoFar}
+use Rattle.piece_state.specs.State.{handedIn}
+use Rattle.piece_state.proofs.Kept.{Good, brings-none}
 use Rattle.pieces.proofs.Joined.{more-refused, next-size, next-first, next-keeps, next-more}
 use Rattle.pieces.proofs.Calls.{refused-piece, taken-piece, met-piece, next-piece}
 use Rattle.pieces.proofs.piece.Statement.{statement}

@@ -89,4 +89,3 @@ try-all-spec =
     loop-less
     loop-again
     returns-2)
-

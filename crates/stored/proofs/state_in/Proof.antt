@@ -9,8 +9,8 @@ use lib.ListN.{length, take}
 use Rattle.refusals.specs.declared.Refusal.{Refusal}
 use Rattle.refusals.specs.Refusals.{refusalNumbered}
 use Rattle.words.specs.Numbers.{numberAt}
-use Rattle.pieces.specs.declared.Pieces.{Pieces}
-use Rattle.pieces.proofs.Kept.{fills}
+use Rattle.piece_state.specs.declared.Pieces.{Pieces}
+use Rattle.piece_state.proofs.Kept.{fills}
 use Rattle.stored.specs.Stored.{stateIn}
 use Rattle.stored.proofs.state_in.Statement.{statement}
 use Rattle.stored.proofs.state_in.Tie as tie

@@ -4,7 +4,7 @@ use borrow.Author.Needs.{needs}
 use denote.Ref.{now}
 use lib.ListN.{length}
 use Rattle.refusals.specs.Refusals.{numberOf}
-use Rattle.pieces.specs.declared.Pieces.{Pieces}
+use Rattle.piece_state.specs.declared.Pieces.{Pieces}
 use Rattle.pieces.specs.declared.Ended.{Ended}
 use Rattle.pieces.specs.Calls.{endOf, endOutputOf}
 use Rattle.stored.specs.Stored.{stateIn, handedBack}

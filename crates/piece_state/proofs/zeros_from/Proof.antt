@@ -1,4 +1,4 @@
--- `pieces::zeros_from` meets its contract: whether all are zero is decided by those from the place reached on.
+-- `piece_state::zeros_from` meets its contract: whether all are zero is decided by those from the place reached on.
 use borrow.Author.Needs.{needs}
 use Prim.Native.Nat.{_-_, _≤_}
 use mathlib.Core.Path.{_≡_, refl}
@@ -8,9 +8,9 @@ use borrow.Author.Tests.{eq-eqb, ne-eqb}
 use denote.Ref.{now}
 use lib.ListN.{length, drop, getD, drop-of-length-le}
 use lib.Seq.{drop-cons}
-use Rattle.pieces.specs.State.{allZero}
-use Rattle.pieces.proofs.zeros_from.Statement.{statement}
-use Rattle.pieces.proofs.zeros_from.Tie as tie
+use Rattle.piece_state.specs.State.{allZero}
+use Rattle.piece_state.proofs.zeros_from.Statement.{statement}
+use Rattle.piece_state.proofs.zeros_from.Tie as tie
 
 abbrev Inv-loop : tie.InvT-loop
 Inv-loop bytes from i₀ i = (i ≤ length bytes) × (allZero (drop from bytes) ≡ allZero (drop i bytes))

@@ -2,15 +2,15 @@
 -- keeps, which refusal has come once so many bytes have, and which states some calls from a fresh one produce.
 use Prim.Native.Nat.{ℕ, _-_}
 use mathlib.Core.List.{List, [], _∷_, _++_}
-use mathlib.Core.Bool.{Bool, true, false, cond, _&&_}
+use mathlib.Core.Bool.{Bool, true, false, cond, not, _&&_}
 use lib.ListN.{length, take, drop, replicate}
 use lib.Dec.{leb, eqb}
 use Rattle.refusals.specs.declared.Refusal.{Refusal}
 use Rattle.refusals.specs.declared.Refusal.the-variants.{None, Function, Output, Start, Cut, Limits, After, Count, Different, State}
-use Rattle.refusals.specs.Refusals.{isNone, isCut}
+use Rattle.refusals.specs.Refusals.{isNone, isCut, _before_, refusedWhen}
 use Rattle.listing.specs.Longest.{longest, longestAnswered}
 use Rattle.listing.specs.Outcome.{refusalOf}
-use Rattle.pieces.specs.declared.Pieces.{Pieces}
+use Rattle.piece_state.specs.declared.Pieces.{Pieces}
 
 -- the bytes so far, zeros after them, how many they are, and the refusal
 unfoldable pub keeping : List ℕ → Refusal → Pieces
@@ -59,3 +59,7 @@ mayKeep r b = cond (isNone r) (isNone (soFar b)) (ofListing r && eqb (length b) 
 
 unfoldable pub produced : Pieces → Bool
 produced s = leb (s .count) longest && (allZero (drop (s .count) (s .bytes)) && mayKeep (s .refusal) (bytesSoFar s))
+
+-- "12 first"; then "After a refusal every later call repeats it and writes nothing": the refusal that a state brings
+unfoldable pub handedIn : Pieces → Refusal
+handedIn s = refusedWhen (not (produced s)) State before s .refusal

@@ -23,7 +23,7 @@ use Rattle.listing.proofs.Calls.{sections-first, bytes-after, accepted}
 use Rattle.listing.proofs.Long.{sound-short, long-refused}
 use Rattle.listing.proofs.Room.{answered-short}
 use Rattle.listing.proofs.Prefix.{long-decided}
-use Rattle.pieces.specs.State.{soFar, afterMore}
+use Rattle.piece_state.specs.State.{soFar, afterMore}
 
 -- where the listing call does not say that bytes are cut short, it says the same of them so far
 pub not-cut : (b : List ℕ) (r : Refusal) → refusalOf b longestAnswered ≡ r → isCut r ≡ false → soFar b ≡ r

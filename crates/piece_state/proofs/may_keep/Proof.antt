@@ -1,10 +1,10 @@
--- `pieces::may_keep` meets its contract.
+-- `piece_state::may_keep` meets its contract.
 use borrow.Author.Needs.{needs}
 use mathlib.Core.Path.{_≡_, sym, ap, _∙_}
 use lib.Dec.{eqb}
 use Rattle.refusals.proofs.Refusing.{refuses, accepts}
-use Rattle.pieces.proofs.may_keep.Statement.{statement}
-use Rattle.pieces.proofs.may_keep.Tie as tie
+use Rattle.piece_state.proofs.may_keep.Statement.{statement}
+use Rattle.piece_state.proofs.may_keep.Tie as tie
 
 number-requires : tie.Need-number-requires
 number-requires c κs = search needs

@@ -14,9 +14,9 @@ use Rattle.refusals.specs.Refusals.{isNone, _before_, refusedWhen}
 use Rattle.words.proofs.Writing.{sets-enough}
 use Rattle.listing.specs.Longest.{longest}
 use Rattle.listing.proofs.Writing.{sets-front}
-use Rattle.pieces.specs.declared.Pieces.{Pieces}
-use Rattle.pieces.specs.State.{keeping, bytesSoFar, allZero, mayKeep, produced}
-use Rattle.pieces.specs.Calls.{handedIn}
+use Rattle.piece_state.specs.declared.Pieces.{Pieces}
+use Rattle.piece_state.specs.State.{keeping, bytesSoFar, allZero, mayKeep, produced}
+use Rattle.piece_state.specs.State.{handedIn}
 
 pub both : (s t : Bool) → s && t ≡ true → (s ≡ true) × (t ≡ true)
 both true t e = (refl, e)

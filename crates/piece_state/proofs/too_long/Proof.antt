@@ -1,9 +1,9 @@
--- `pieces::too_long` meets its contract.
+-- `piece_state::too_long` meets its contract.
 use borrow.Author.Needs.{needs}
 use mathlib.Core.Path.{sym, _∙_}
 use Rattle.refusals.proofs.Refusing.{refuses, accepts}
-use Rattle.pieces.proofs.too_long.Statement.{statement}
-use Rattle.pieces.proofs.too_long.Tie as tie
+use Rattle.piece_state.proofs.too_long.Statement.{statement}
+use Rattle.piece_state.proofs.too_long.Tie as tie
 
 so-far-requires : tie.Need-so-far-requires
 so-far-requires c κs = search needs

@@ -1,4 +1,4 @@
--- `pieces::handed_in` meets its contract: each return is one of the tests of `produced`.
+-- `piece_state::handed_in` meets its contract: each return is one of the tests of `produced`.
 use borrow.Author.Needs.{needs}
 use Prim.Native.Nat.{ℕ}
 use mathlib.Core.Path.{_≡_, sym, _∙_}
@@ -6,9 +6,9 @@ use native.Mathlib.Omega.{arith}
 use borrow.Author.Tests.{not-true, not-false}
 use lib.ListN.{length}
 use lib.Seq.{length-take-le}
-use Rattle.pieces.proofs.Kept.{many-bytes, not-blank, not-kept, is-kept}
-use Rattle.pieces.proofs.handed_in.Statement.{statement}
-use Rattle.pieces.proofs.handed_in.Tie as tie
+use Rattle.piece_state.proofs.Kept.{many-bytes, not-blank, not-kept, is-kept}
+use Rattle.piece_state.proofs.handed_in.Statement.{statement}
+use Rattle.piece_state.proofs.handed_in.Tie as tie
 
 cast-count : tie.Need-cast-count
 cast-count c = search needs

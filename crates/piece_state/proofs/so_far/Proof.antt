@@ -1,4 +1,4 @@
--- `pieces::so_far` meets its contract.
+-- `piece_state::so_far` meets its contract.
 use borrow.Author.Needs.{needs}
 use mathlib.Core.Path.{_≡_, sym, ap, _∙_}
 use mathlib.Core.Bool.{true}
@@ -6,9 +6,9 @@ use borrow.Author.Tests.{eq-eqb, ne-eqb}
 use denote.Ref.{now}
 use Rattle.refusals.specs.Refusals.{numberOf, isCut}
 use Rattle.sections.specs.declared.Sections.{Sections}
-use Rattle.pieces.proofs.SoFar.{not-cut, cut-none}
-use Rattle.pieces.proofs.so_far.Statement.{statement}
-use Rattle.pieces.proofs.so_far.Tie as tie
+use Rattle.piece_state.proofs.SoFar.{not-cut, cut-none}
+use Rattle.piece_state.proofs.so_far.Statement.{statement}
+use Rattle.piece_state.proofs.so_far.Tie as tie
 
 read-listing-requires : tie.Need-read-listing-requires
 read-listing-requires c κs = search needs
