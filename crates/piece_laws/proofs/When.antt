@@ -2,20 +2,23 @@
 -- nothing before that, as the bytes b have come so far.
 use Prim.Native.Nat.{ℕ, _+_, _≤_, _<_}
 use mathlib.Core.Path.{_≡_, refl, sym, ap, _∙_}
-use mathlib.Core.Bool.{Bool, true, false, false≢true}
+use mathlib.Core.Bool.{Bool, true, false, cond, false≢true}
 use mathlib.Core.List.{List}
 use native.Mathlib.Omega.{arith}
+use borrow.Author.Tests.{eq-eqb}
 use lib.ListN.{length}
 use Rattle.refusals.specs.declared.Refusal.{Refusal}
 use Rattle.refusals.specs.declared.Refusal.the-variants.{None, Function, Cut, Limits, After}
-use Rattle.refusals.specs.Refusals.{isNone, isCut}
+use Rattle.refusals.specs.Refusals.{numberOf, isNone, isCut}
 use Rattle.words.specs.Numbers.{numberAt}
 use Rattle.sections.specs.Sections.{pastSection, functionsOf, pastPatterns}
 use Rattle.sections.specs.Order.{mostFunctions, mostPatterns, sectionRefusal, allKnown, sectionsRefusal}
 use Rattle.sections.proofs.Whole.{Whole, cut-count, too-few, too-many, cut-numbers}
 use Rattle.sections.proofs.Sound.{functions-first, unknown-next, patterns-last}
 use Rattle.listing.specs.Longest.{longestAnswered}
+use Rattle.listing.specs.Outcome.{refusalOf}
 use Rattle.listing.proofs.Calls.{sections-first}
+use Rattle.listing.proofs.Room.{never-short}
 use Rattle.piece_state.specs.State.{soFar}
 use Rattle.piece_state.proofs.SoFar.{not-cut, cut-none}
 
@@ -65,3 +68,20 @@ module _ (b : List ℕ) where
         pub patterns-coming : numberAt b (pastSection b 0) ≤ mostPatterns → length b < pastPatterns b → soFar b ≡ None
         unfolding pastPatterns
         patterns-coming few h = waits (by-patterns Cut (cut-numbers b (pastSection b 0) 0 mostPatterns counted (omega arith) few h))
+
+-- "4 and 2 only at the end call"
+pub never-four : (b : List ℕ) → numberOf (soFar b) ≡ 4 → ⊥
+unfolding soFar
+never-four b e = go (isCut (refusalOf b longestAnswered)) refl e
+  where
+    go : (t : Bool) → isCut (refusalOf b longestAnswered) ≡ t → numberOf (cond t None (refusalOf b longestAnswered)) ≡ 4 → ⊥
+    go true c e = omega arith
+    go false c e = false≢true (sym c ∙ eq-eqb (numberOf (refusalOf b longestAnswered)) 4 e)
+
+pub never-two : (b : List ℕ) → numberOf (soFar b) ≡ 2 → ⊥
+unfolding soFar
+never-two b e = go (isCut (refusalOf b longestAnswered)) e
+  where
+    go : (t : Bool) → numberOf (cond t None (refusalOf b longestAnswered)) ≡ 2 → ⊥
+    go true e = omega arith
+    go false e = never-short b longestAnswered (omega arith) e
