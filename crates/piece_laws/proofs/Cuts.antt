@@ -2,14 +2,12 @@
 -- a refusal comes.
 use Prim.Native.Nat.{ℕ}
 use mathlib.Core.Path.{_≡_, refl, sym, ap, _∙_}
-use mathlib.Core.Bool.{Bool, true, false, cond, false≢true}
+use mathlib.Core.Bool.{Bool, true, false}
 use mathlib.Core.List.{List, [], _∷_, _++_, append-assoc, append-nil}
 use lib.ListN.{length}
-use Rattle.refusals.specs.declared.Refusal.{Refusal}
 use Rattle.refusals.specs.declared.Refusal.the-variants.{None}
 use Rattle.refusals.specs.Refusals.{isNone}
 use Rattle.refusals.proofs.Refusing.{none-is}
-use Rattle.listing.specs.Longest.{longest}
 use Rattle.listing.specs.Outcome.{listedOf, outputOf}
 use Rattle.listing.proofs.Calls.{refused-call}
 use Rattle.piece_state.specs.declared.Pieces.{Pieces}
@@ -17,7 +15,7 @@ use Rattle.pieces.specs.declared.Pieced.{Pieced}
 use Rattle.piece_state.specs.State.{keeping, freshState, soFar, stateAfter, bytesSoFar, handedIn}
 use Rattle.pieces.specs.Calls.{pieceOf, endOf, endOutputOf}
 use Rattle.pieces.proofs.Calls.{endedWith, refused-piece, refused-end, refused-output, taken-piece, taken-end, taken-output}
-use Rattle.piece_laws.specs.Sequences.{Call, piece, end, stateBy, run, pieces, joined}
+use Rattle.piece_laws.specs.Sequences.{run, pieces, joined}
 use Rattle.piece_laws.proofs.Growing.{met-whole, met-stays}
 use Rattle.piece_laws.proofs.Produced.{nothing-yet, kept-bytes, kept-refusal, brings, after-produced}
 
@@ -58,7 +56,8 @@ module _ (b : List ℕ) where
           refused-piece (stateAfter b) p (ap isNone (after-brings b) ∙ e) ∙ rw (after-brings b, state, same)
 
   -- the end
-  pub end-after : (output : List ℕ) → (endOf (stateAfter b) (length output) ≡ endedWith (listedOf b (length output))) × (endOutputOf (stateAfter b) output ≡ outputOf b output)
+  pub end-after : (output : List ℕ)
+      → (endOf (stateAfter b) (length output) ≡ endedWith (listedOf b (length output))) × (endOutputOf (stateAfter b) output ≡ outputOf b output)
   end-after output = go (isNone (soFar b)) refl
     where
       go : (t : Bool) → isNone (soFar b) ≡ t

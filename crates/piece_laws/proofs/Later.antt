@@ -6,7 +6,6 @@ use mathlib.Core.Bool.{Bool, true, false, false≢true}
 use mathlib.Core.List.{List, [], _∷_, _++_, append-nil}
 use native.Mathlib.Omega.{arith}
 use lib.ListN.{length}
-use Rattle.refusals.specs.declared.Refusal.{Refusal}
 use Rattle.refusals.specs.Refusals.{isNone}
 use Rattle.refusals.proofs.Refusing.{none-is}
 use Rattle.listing.specs.Longest.{longest}

@@ -15,5 +15,6 @@ one-piece s p r r' h k = h ∙ sym k
 abbrev pub AllowedEnd : Pieces → List ℕ → Ended → List ℕ → Type 0
 AllowedEnd s output r left = (r ≡ endOf s (length output)) × (left ≡ endOutputOf s output)
 
-pub one-end : (s : Pieces) (output : List ℕ) (r r' : Ended) (left left' : List ℕ) → AllowedEnd s output r left → AllowedEnd s output r' left' → (r ≡ r') × (left ≡ left')
+pub one-end : (s : Pieces) (output : List ℕ) (r r' : Ended) (left left' : List ℕ)
+    → AllowedEnd s output r left → AllowedEnd s output r' left' → (r ≡ r') × (left ≡ left')
 one-end s output r r' left left' h k = (h .0 ∙ sym (k .0), h .1 ∙ sym (k .1))

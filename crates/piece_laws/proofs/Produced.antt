@@ -1,20 +1,19 @@
 -- Which states calls from a fresh one produce: those that `produced` finds, and no others.
-use Prim.Native.Nat.{ℕ, _-_, _≤_, _<_}
-use mathlib.Core.Path.{_≡_, refl, sym, ap, _∙_, subst}
-use mathlib.Core.Bool.{Bool, true, false, cond, false≢true}
+use Prim.Native.Nat.{ℕ, _-_, _≤_}
+use mathlib.Core.Path.{_≡_, refl, ap, _∙_}
+use mathlib.Core.Bool.{Bool, true, false, cond}
 use mathlib.Core.List.{List, [], _∷_, _++_}
 use native.Mathlib.Omega.{arith}
-use borrow.Author.Tests.{le-leb, eqb-true, ltb-true, ltb-false}
-use lib.ListN.{length, take, drop, getD, replicate, List·getD-eq-default}
-use lib.Seq.{take-append-seam, drop-append-seam, getD-take, length-take-le}
+use borrow.Author.Tests.{le-leb}
+use lib.ListN.{length, take, drop, replicate}
+use lib.Seq.{take-append-seam, drop-append-seam}
 use lib.Dec.{ltb}
 use Rattle.refusals.specs.declared.Refusal.{Refusal}
-use Rattle.refusals.specs.declared.Refusal.the-variants.{None, Function, Output, Start, Cut, Limits, After, Count, Different, State}
+use Rattle.refusals.specs.declared.Refusal.the-variants.{None, Output, After}
 use Rattle.refusals.specs.Refusals.{isNone, isCut, _before_, refusedWhen}
 use Rattle.refusals.proofs.Refusing.{before-keeps, when-keeps}
 use Rattle.sections.specs.Sections.{functionsOf, patternsOf, pastPatterns}
 use Rattle.sections.specs.Order.{sectionsRefusal}
-use Rattle.sections.proofs.Back.{Bytes}
 use Rattle.sections.proofs.Given.{sections-keep}
 use Rattle.listing.specs.Answered.{answered}
 use Rattle.listing.specs.Longest.{longest, longestAnswered}
@@ -23,7 +22,7 @@ use Rattle.piece_state.specs.declared.Pieces.{Pieces}
 use Rattle.piece_state.specs.State.{keeping, freshState, soFar, stateAfter, bytesSoFar, allZero, mayKeep, produced, handedIn}
 use Rattle.pieces.specs.Calls.{pieceOf, endOf}
 use Rattle.piece_state.proofs.SoFar.{short-so-far}
-use Rattle.piece_state.proofs.Kept.{all-zero, good-of, keeps, size}
+use Rattle.piece_state.proofs.Kept.{all-zero}
 use Rattle.pieces.proofs.Calls.{refused-piece, refused-end, taken-piece, taken-end}
 use Rattle.piece_laws.specs.Sequences.{Call, piece, end, stateBy, run}
 use Rattle.piece_laws.proofs.When.{one-byte}

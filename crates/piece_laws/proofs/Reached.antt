@@ -1,12 +1,11 @@
 -- Every state that `produced` finds is produced by calls from a fresh one.
-use Prim.Native.Nat.{ℕ, zero, suc, _<_}
+use Prim.Native.Nat.{ℕ, zero, suc}
 use mathlib.Core.Path.{_≡_, refl, sym, ap, _∙_, subst}
-use mathlib.Core.Bool.{Bool, true, false, cond, _&&_, false≢true}
-use mathlib.Core.List.{List, [], _∷_, _++_, append-nil}
+use mathlib.Core.Bool.{Bool, true, false, _&&_, false≢true}
+use mathlib.Core.List.{List, [], _∷_, append-nil}
 use native.Mathlib.Omega.{arith}
-use borrow.Author.Tests.{eqb-true, ltb-true, ltb-false}
-use lib.ListN.{length, take, getD, List·getD-eq-default}
-use lib.Seq.{getD-take, length-take-le}
+use borrow.Author.Tests.{eqb-true, ltb-true}
+use lib.ListN.{length, take}
 use lib.Dec.{ltb, eqb}
 use Rattle.refusals.specs.declared.Refusal.{Refusal}
 use Rattle.refusals.specs.declared.Refusal.the-variants.{None, Function, Output, Start, Cut, Limits, After, Count, Different, State}
@@ -14,6 +13,7 @@ use Rattle.refusals.specs.Refusals.{isNone}
 use Rattle.sections.specs.Sections.{section, functionsOf, patternsOf, pastPatterns}
 use Rattle.sections.specs.Order.{sectionRefusal, sectionsRefusal}
 use Rattle.sections.proofs.Back.{Bytes}
+use Rattle.sections.proofs.Known.{both}
 use Rattle.listing.specs.Answered.{listing, answered}
 use Rattle.listing.specs.Longest.{longest}
 use Rattle.listing.specs.Outcome.{refusalOf}
@@ -21,7 +21,7 @@ use Rattle.piece_state.specs.declared.Pieces.{Pieces}
 use Rattle.pieces.specs.declared.Ended.{Ended}
 use Rattle.piece_state.specs.State.{keeping, freshState, soFar, stateAfter, bytesSoFar, ofListing, mayKeep, produced}
 use Rattle.pieces.specs.Calls.{endOf}
-use Rattle.piece_state.proofs.Kept.{Good, good-of, keeps, both}
+use Rattle.piece_state.proofs.Kept.{Good, good-of, keeps}
 use Rattle.piece_laws.specs.Sequences.{Call, piece, end, run, AllMade}
 use Rattle.piece_laws.proofs.Cuts.{none-after, met-after, pieces-give, end-after, fresh-after}
 
@@ -94,7 +94,11 @@ reaches s full bytes h = by (s .refusal) refl
 
     by : (r : Refusal) → s .refusal ≡ r → Reached s
     by None e =
-        record { calls = piece (bytesSoFar s) ∷ []; made = (part-bytes (s .count) (s .bytes) bytes, tt); gives = first-piece (bytesSoFar s) ∙ sym (open-state s full g e) }
+        record {
+          calls = piece (bytesSoFar s) ∷ [];
+          made = (part-bytes (s .count) (s .bytes) bytes, tt);
+          gives = first-piece (bytesSoFar s) ∙ sym (open-state s full g e);
+        }
     by Function e = one (1 ∷ 0 ∷ 0 ∷ 0 ∷ []) Function refl refl e refl
     by Output e =
         record {

@@ -8,7 +8,7 @@ use native.Mathlib.Omega.{arith}
 use borrow.Author.Tests.{eq-eqb}
 use lib.ListN.{length}
 use Rattle.refusals.specs.declared.Refusal.{Refusal}
-use Rattle.refusals.specs.declared.Refusal.the-variants.{None, Function, Cut, Limits, After}
+use Rattle.refusals.specs.declared.Refusal.the-variants.{None, Function, Cut, Limits}
 use Rattle.refusals.specs.Refusals.{numberOf, isNone, isCut}
 use Rattle.words.specs.Numbers.{numberAt}
 use Rattle.sections.specs.Sections.{pastSection, functionsOf, pastPatterns}

@@ -4,7 +4,6 @@ use mathlib.Core.List.{List, [], _∷_, _++_}
 use lib.ListN.{getD}
 use Rattle.refusals.specs.declared.Refusal.{Refusal}
 use Rattle.piece_state.specs.declared.Pieces.{Pieces}
-use Rattle.piece_state.specs.State.{freshState}
 use Rattle.pieces.specs.Calls.{pieceOf, endOf}
 
 -- a piece with its bytes, or an end with its output's length

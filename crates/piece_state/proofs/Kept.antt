@@ -1,26 +1,21 @@
 -- What a state keeps, and what it keeps after more bytes.
 use Prim.Native.Nat.{ℕ, zero, suc, _+_, _-_, _≤_, _<_}
 use mathlib.Core.Path.{_≡_, refl, sym, ap, _∙_}
-use mathlib.Core.Bool.{Bool, true, false, cond, not, _&&_, false≢true}
+use mathlib.Core.Bool.{Bool, true, false, not, _&&_, false≢true}
 use mathlib.Core.List.{List, [], _∷_, _++_, append-assoc, append-nil}
 use native.Mathlib.Omega.{arith}
 use borrow.Author.Tests.{leb-true, le-leb, lt-leb, eqb-true}
 use lib.ListN.{length, take, drop, replicate, length-drop, length-replicate, replicate-append-replicate, take-append-drop, drop-of-length-le}
 use lib.Seq.{sets, length-take-le, drop-at}
 use lib.Dec.{leb, eqb}
-use Rattle.refusals.specs.declared.Refusal.{Refusal}
 use Rattle.refusals.specs.declared.Refusal.the-variants.{State}
 use Rattle.refusals.specs.Refusals.{isNone, _before_, refusedWhen}
 use Rattle.words.proofs.Writing.{sets-enough}
+use Rattle.sections.proofs.Known.{both}
 use Rattle.listing.specs.Longest.{longest}
 use Rattle.listing.proofs.Writing.{sets-front}
 use Rattle.piece_state.specs.declared.Pieces.{Pieces}
-use Rattle.piece_state.specs.State.{keeping, bytesSoFar, allZero, mayKeep, produced}
-use Rattle.piece_state.specs.State.{handedIn}
-
-pub both : (s t : Bool) → s && t ≡ true → (s ≡ true) × (t ≡ true)
-both true t e = (refl, e)
-both false t e = absurd (false≢true e)
+use Rattle.piece_state.specs.State.{keeping, bytesSoFar, allZero, mayKeep, produced, handedIn}
 
 pub zeros : (l : List ℕ) → allZero l ≡ true → l ≡ replicate (length l) 0
 zeros [] e = refl

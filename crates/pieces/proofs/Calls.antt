@@ -45,10 +45,12 @@ module _ (s : Pieces) where
     taken-output output = rw n
 
 -- the piece call's outcome once the bytes have met a refusal, and while they have not
-pub met-piece : (b : List ℕ) (r : Refusal) → soFar b ≡ r → isNone r ≡ false → _≡_ {A = Pieced} (record { state = stateAfter b; refusal = soFar b }) (record { state = keeping [] r; refusal = r })
+pub met-piece : (b : List ℕ) (r : Refusal) → soFar b ≡ r → isNone r ≡ false
+    → _≡_ {A = Pieced} (record { state = stateAfter b; refusal = soFar b }) (record { state = keeping [] r; refusal = r })
 unfolding stateAfter
 met-piece b r e n = rw (e, n)
 
-pub next-piece : (b : List ℕ) (r : Refusal) → soFar b ≡ r → isNone r ≡ true → _≡_ {A = Pieced} (record { state = stateAfter b; refusal = soFar b }) (record { state = keeping b r; refusal = r })
+pub next-piece : (b : List ℕ) (r : Refusal) → soFar b ≡ r → isNone r ≡ true
+    → _≡_ {A = Pieced} (record { state = stateAfter b; refusal = soFar b }) (record { state = keeping b r; refusal = r })
 unfolding stateAfter
 next-piece b r e n = rw (none-is r n, e ∙ none-is r n)

@@ -1,12 +1,12 @@
 -- The next bytes written over the zeros after those so far: the bytes so far and the next ones, as many as there is room for.
 use Prim.Native.Nat.{ℕ, _+_, _-_, _≤_, _<_}
 use mathlib.Core.Path.{_≡_, refl, sym, ap, _∙_}
-use mathlib.Core.Bool.{Bool, true, false, cond}
+use mathlib.Core.Bool.{Bool, true, false}
 use mathlib.Core.List.{List, [], _++_, append-assoc, append-nil}
 use native.Mathlib.Omega.{arith}
 use borrow.Rule.Slice.PartMut.{midOf, putMid}
 use lib.ListN.{length, take, drop, replicate, length-append, length-drop, length-replicate, take-append-drop, drop-of-length-le}
-use lib.Seq.{sets, length-sets, length-take-le, take-all, take-at}
+use lib.Seq.{sets, length-sets, take-all, take-at}
 use Rattle.refusals.specs.declared.Refusal.{Refusal}
 use Rattle.refusals.specs.Refusals.{isNone}
 use Rattle.listing.specs.Longest.{longest}
@@ -54,7 +54,9 @@ module _ (s : Pieces) (full : length (s .bytes) ≡ longest) (g : Good s) (p lef
   -- there is room for p
   module _ (h : length p ≤ room) where
     pub next-first : take (s .count + length p) next ≡ all
-    next-first = ap (take (s .count + length p)) (over ∙ fits (bytesSoFar s) p room h) ∙ take-at all (replicate (room - length p) 0) (s .count + length p) all-size
+    next-first =
+        ap (take (s .count + length p)) (over ∙ fits (bytesSoFar s) p room h)
+        ∙ take-at all (replicate (room - length p) 0) (s .count + length p) all-size
 
     pub next-keeps : (r : Refusal) → _≡_ {A = Pieces} (record { bytes = next; count = s .count + length p; refusal = r }) (keeping all r)
     unfolding keeping

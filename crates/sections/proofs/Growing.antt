@@ -59,7 +59,8 @@ module _ (b p : List ℕ) where
     section-grows h =
         go (ltb (length b) (at + 2)) (ltb (numberAt b at) least) (ltb most (numberAt b at)) (ltb (length b) (pastSection b at)) refl refl refl refl
       where
-        go : (s t u v : Bool) → ltb (length b) (at + 2) ≡ s → ltb (numberAt b at) least ≡ t → ltb most (numberAt b at) ≡ u → ltb (length b) (pastSection b at) ≡ v
+        go : (s t u v : Bool) → ltb (length b) (at + 2) ≡ s → ltb (numberAt b at) least ≡ t
+            → ltb most (numberAt b at) ≡ u → ltb (length b) (pastSection b at) ≡ v
             → sectionRefusal (b ++ p) at least most ≡ sectionRefusal b at least most
         go true t u v es et eu ev = absurd (cut-off (cut-count b at least most (ltb-true (length b) (at + 2) es)) h refl)
         go false true u v es et eu ev =

@@ -10,7 +10,7 @@ use Rattle.words.specs.Numbers.{numberAt, numbersAt}
 use Rattle.words.proofs.Reading.{numbersAt-next}
 use Rattle.sections.specs.Order.{allKnown}
 
-both : (s t : Bool) → s && t ≡ true → (s ≡ true) × (t ≡ true)
+pub both : (s t : Bool) → s && t ≡ true → (s ≡ true) × (t ≡ true)
 both true t e = (refl, e)
 both false t e = absurd (false≢true e)
 

@@ -1,6 +1,6 @@
 -- The bytes of a state, written part by part over as many.
-use Prim.Native.Nat.{ℕ, _+_}
-use mathlib.Core.Path.{_≡_, refl, sym, ap, _∙_}
+use Prim.Native.Nat.{ℕ}
+use mathlib.Core.Path.{_≡_, sym, ap, _∙_}
 use mathlib.Core.List.{List, [], _++_, append-nil}
 use native.Mathlib.Omega.{arith}
 use native.Mathlib.Nat.{zero-add}
@@ -24,7 +24,8 @@ module _ (s : Pieces) (full : length (s .bytes) ≡ 2072) (was : List ℕ) (room
       let count = bytesOf (s .count) in
       let refusal = bytesOf (numberOf (s .refusal)) in
       let first : sets was 0 (s .bytes ++ (count ++ refusal)) ≡ sets (sets was 0 (s .bytes)) 2072 (count ++ refusal) =
-      sets-append was 0 (s .bytes) (count ++ refusal) ∙ ap (λ (k : ℕ). sets (sets was 0 (s .bytes)) k (count ++ refusal)) (zero-add (length (s .bytes)) ∙ full) in
+      sets-append was 0 (s .bytes) (count ++ refusal)
+      ∙ ap (λ (k : ℕ). sets (sets was 0 (s .bytes)) k (count ++ refusal)) (zero-add (length (s .bytes)) ∙ full) in
       let over : sets was 0 (layout s) ≡ layout s ++ drop (length (layout s)) was = sets-front was (layout s) (omega (arith, layout-size)) in
       let none : drop (length (layout s)) was ≡ [] = drop-of-length-le was {i = length (layout s)} (omega (arith, layout-size)) in
       sym (sets-append (sets was 0 (s .bytes)) 2072 count refusal) ∙ sym first ∙ over ∙ ap (λ (l : List ℕ). layout s ++ l) none ∙ append-nil (layout s)

@@ -54,7 +54,8 @@ module _ (c : tie.Else1) where
   none : isNone (refusalOf b (length output)) ≡ true
   none =
       let n = c .before .number in
-      none-of b (refusalOf b (length output)) found (c .before .before .read-listing .ensures) (accepts (found .refusal) (n .result) (n .ensures) (c .if1 .left))
+      let r = refusalOf b (length output) in
+      none-of b r found (c .before .before .read-listing .ensures) (accepts (found .refusal) (n .result) (n .ensures) (c .if1 .left))
 
   a : Accepted b (length output)
   a = accepted-of b (length output) none

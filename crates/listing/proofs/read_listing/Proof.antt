@@ -93,7 +93,8 @@ refused-requires-3 c κs = search needs
 returns-3 : tie.Need-returns-3
 returns-3 c =
     let d = c .before .before .before in
-    c .refused3 .ensures ∙ refused-counts (b d) Output (output-last (b d) (outputs d) (have d .sound) (omega (arith, have d .past)) (omega (arith, size d))) refl
+    c .refused3 .ensures
+    ∙ refused-counts (b d) Output (output-last (b d) (outputs d) (have d .sound) (omega (arith, have d .past)) (omega (arith, size d))) refl
 
 returns-4 : tie.Need-returns-4
 returns-4 c =

@@ -1,6 +1,5 @@
 -- `piece_state::handed_in` meets its contract: each return is one of the tests of `produced`.
 use borrow.Author.Needs.{needs}
-use Prim.Native.Nat.{ℕ}
 use mathlib.Core.Path.{_≡_, sym, _∙_}
 use native.Mathlib.Omega.{arith}
 use borrow.Author.Tests.{not-true, not-false}

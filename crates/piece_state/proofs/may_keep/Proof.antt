@@ -1,7 +1,6 @@
 -- `piece_state::may_keep` meets its contract.
 use borrow.Author.Needs.{needs}
-use mathlib.Core.Path.{_≡_, sym, ap, _∙_}
-use lib.Dec.{eqb}
+use mathlib.Core.Path.{sym, _∙_}
 use Rattle.refusals.proofs.Refusing.{refuses, accepts}
 use Rattle.piece_state.proofs.may_keep.Statement.{statement}
 use Rattle.piece_state.proofs.may_keep.Tie as tie

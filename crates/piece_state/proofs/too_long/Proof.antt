@@ -1,6 +1,5 @@
 -- `piece_state::too_long` meets its contract.
 use borrow.Author.Needs.{needs}
-use mathlib.Core.Path.{sym, _∙_}
 use Rattle.refusals.proofs.Refusing.{refuses, accepts}
 use Rattle.piece_state.proofs.too_long.Statement.{statement}
 use Rattle.piece_state.proofs.too_long.Tie as tie

@@ -32,7 +32,8 @@ returns c =
     let output = now (a .output) in
     let was = c .before .before .before .before .before .before .before .before .state-in in
     let done = c .before .before .before .before .before .before .end in
-    let e : done .result ≡ endOf (stateIn (now (a .state))) (length output) = done .ensures .0 ∙ ap (λ (s : Pieces). endOf s (length output)) (was .ensures) in (
+    let e : done .result ≡ endOf (stateIn (now (a .state))) (length output) =
+    done .ensures .0 ∙ ap (λ (s : Pieces). endOf s (length output)) (was .ensures) in (
       c .number .ensures ∙ ap (λ (r : Ended). numberOf (r .refusal)) e,
       (
         ap (λ (r : Ended). r .written) e,

@@ -27,7 +27,8 @@ returns c =
     let a = c .before .before .before .before .before .before .before .before .args in
     let was = c .before .before .before .before .before .state-in in
     let done = c .before .before .before .before .piece in
-    let e : done .result ≡ pieceOf (stateIn (now (a .state))) (now (a .piece)) = done .ensures ∙ ap (λ (s : Pieces). pieceOf s (now (a .piece))) (was .ensures) in (
+    let e : done .result ≡ pieceOf (stateIn (now (a .state))) (now (a .piece)) =
+    done .ensures ∙ ap (λ (s : Pieces). pieceOf s (now (a .piece))) (was .ensures) in (
       c .number .ensures ∙ ap (λ (r : Pieced). numberOf (r .refusal)) e,
       c .before .hand-back .ensures ∙ ap (λ (r : Pieced). handedBack (r .state) (r .refusal) (now (a .state))) e,
     )
