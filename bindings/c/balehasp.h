@@ -177,7 +177,8 @@ BALEHASP_MUST_USE uint16_t balehasp_listing(
  * and every later call, balehasp_piece or balehasp_end, repeats that refusal and changes nothing, until the caller sets the
  * state to zeros for the next listing.
  * Refusal 12 goes before all of these: a state that no calls from a fresh one produce, which stays as it was.
- * `state` may not be NULL and may not overlap the piece, else BALEHASP_MISUSED. */
+ * `state` may not be NULL and may not overlap the piece, else BALEHASP_MISUSED. This call and balehasp_end each need some 5,300
+ * bytes of stack, for copies of the state. */
 BALEHASP_MUST_USE uint16_t balehasp_piece(uint8_t state[BALEHASP_PIECES], const uint8_t *piece, size_t length);
 
 /* Says that the listing has come whole, and answers it: writes what balehasp_listing would write into the first bytes of
