@@ -59,13 +59,13 @@ enum {
 /* The refusals' numbers. Each call names those that it gives; 7 and 8 are balehasp_difference's alone, and 12 is given by
  * balehasp_piece and balehasp_end. 9, 10 and 11 are no refusals yet. */
 enum {
-    BALEHASP_REFUSED_FUNCTION = 1, /* a function number outside 1 to 10 */
-    BALEHASP_REFUSED_OUTPUT = 2,   /* the output is too short */
-    BALEHASP_REFUSED_START = 3,    /* the start lies beyond the input */
-    BALEHASP_REFUSED_CUT = 4,      /* a count or a section of a listing is cut short */
-    BALEHASP_REFUSED_LIMITS = 5,   /* a count of a listing is outside its limits */
-    BALEHASP_REFUSED_AFTER = 6,    /* bytes after a listing's patterns, or after an answered one's answers */
-    BALEHASP_REFUSED_COUNT = 7,    /* the count of answers is not functions times patterns */
+    BALEHASP_REFUSED_FUNCTION = 1,  /* a function number outside 1 to 10 */
+    BALEHASP_REFUSED_OUTPUT = 2,    /* the output is too short */
+    BALEHASP_REFUSED_START = 3,     /* the start lies beyond the input */
+    BALEHASP_REFUSED_CUT = 4,       /* a count or a section of a listing is cut short */
+    BALEHASP_REFUSED_LIMITS = 5,    /* a count of a listing is outside its limits */
+    BALEHASP_REFUSED_AFTER = 6,     /* bytes after a listing's patterns, or after an answered one's answers */
+    BALEHASP_REFUSED_COUNT = 7,     /* the count of answers is not functions times patterns */
     BALEHASP_REFUSED_DIFFERENT = 8, /* two listings ask different things */
     BALEHASP_REFUSED_STATE = 12     /* a state that no calls from a fresh one produce */
 };
