@@ -1,4 +1,6 @@
 // Answered listings: one, and two that ask the same.
+#![tactic(auto)]
+
 ghost use Rattle.std.specs.Prelude.{◌≡◌, ◌+◌, ◌*◌, ◌^◌, ◌<◌};
 ghost use Rattle.words.specs.Numbers.{numbers_at};
 ghost use Rattle.answered.specs.Answered.{answered_of, pair_of, same};

@@ -2,6 +2,8 @@
 // bytes. No listing is longer than 2,072 bytes, and of longer input the first 2,073 bytes decide how it is refused, so no more are
 // read. A read or a write that fails is told on standard error; after a read that failed nothing is written, for nobody knows what
 // the listing was.
+#![tactic(auto)]
+
 fn main() {
     if !blocks::without_words() {
         return;

@@ -1,5 +1,7 @@
 // atan_pi, asin_pi and acos_pi, rows 8 to 10 of document 01, and the square root that the last two take. Each function has a
 // file of its own under math/, named as in the crate softposit 0.4.0.
+#![tactic(auto)]
+
 mod kernel;
 mod math;
 

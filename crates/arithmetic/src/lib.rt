@@ -1,4 +1,6 @@
 // Negation, sums, differences and products of patterns, each rounded once.
+#![tactic(auto)]
+
 mod products;
 mod sums;
 

@@ -1,4 +1,6 @@
 // Many patterns at once, a part at a time: the batch call.
+#![tactic(auto)]
+
 mod fill;
 
 ghost use Rattle.std.specs.Prelude.{◌≡◌, length};

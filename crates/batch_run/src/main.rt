@@ -1,4 +1,6 @@
 // The batch beside a plain loop: after each call every place of the output and every number of the result are compared.
+#![tactic(auto)]
+
 ghost use Rattle.std.specs.Prelude.{◌≡◌, length};
 
 use libc::STDOUT_FILENO;

@@ -1,5 +1,7 @@
 // Standard input and output in blocks, and files, for the programs. A read or a write that fails is told on standard error, in a line that
 // begins `failed: ` and ends with the system's words.
+#![tactic(auto)]
+
 ghost use Rattle.std.specs.Prelude.{◌≡◌, length};
 ghost use Rattle.io.specs.Counts.{IsPrefixLen};
 

@@ -1,5 +1,7 @@
 // sin_pi, cos_pi and tan_pi, rows 5 to 7 of document 01. Each has a file of its own under math/, named as in the crate
 // softposit 0.4.0.
+#![tactic(auto)]
+
 mod math;
 mod quadrant;
 

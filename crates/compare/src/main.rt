@@ -4,6 +4,8 @@
 // answered listing is longer than 22,554 bytes, and of a longer file the first 22,555 bytes decide how it is refused, so no more are
 // read. A file that cannot be opened or read is told on standard error, and then nothing is printed. `tools/compare-check --write`
 // made the files in data/ and, by a model that shares nothing with the program, stdout.
+#![tactic(auto)]
+
 ghost use Rattle.std.specs.Prelude.{◌≡◌, length};
 
 fn main() {

@@ -2,6 +2,8 @@
 // after the other: a byte that is 1 for the short mode, the place to look from, how long each listing is, as 16-bit numbers, low byte
 // first, and the two listings. For each case it prints the refusal's number and the place found in a line, and after it what is said
 // of the pair. `tools/compare-check --write` made stdin, and from it stdout, by a model that shares nothing with the program.
+#![tactic(auto)]
+
 fn main() {
     let mut input = blocks::input_block();
     let block = blocks::read_block(&mut input);

@@ -1,4 +1,6 @@
 // Two answered listings compared.
+#![tactic(auto)]
+
 mod walk;
 
 ghost use Rattle.std.specs.Prelude.{◌≡◌, length};

@@ -1,4 +1,6 @@
 // exp and exp2, rows 1 and 2 of document 01. Each has a file of its own under math/, named as in the crate softposit 0.4.0.
+#![tactic(auto)]
+
 mod ends;
 mod fixed;
 mod math;

@@ -1,4 +1,6 @@
 // A listing of functions and patterns, and its answered form.
+#![tactic(auto)]
+
 mod rows;
 
 ghost use Rattle.std.specs.Prelude.{◌≡◌, length};

@@ -2,6 +2,8 @@
 // byte first. Up to seven last bytes, which make no f64, are ignored. It ends at the first read or write that fails, and says so.
 // The f64s go by their bits, for a NaN's bits are no f64 to the language. `tools/reals-check --write` made stdin, and from it
 // stdout, with exact fractions.
+#![tactic(auto)]
+
 ghost use Rattle.std.specs.Prelude.{◌≡◌, ◌+◌, ◌<◌, ◌≤◌, length, take};
 ghost use Rattle.io.specs.Counts.{IsPrefixLen};
 ghost use Rattle.blocks.specs.Words.{word_at};

@@ -1,4 +1,6 @@
 // The state of a listing that comes in pieces: what it keeps, which refusal has come, and whether calls produce it.
+#![tactic(auto)]
+
 ghost use Rattle.std.specs.Prelude.{◌≡◌, [], ◌≤◌, length, drop};
 ghost use Rattle.piece_state.specs.State.{keeping, so_far_of, after_more, all_zero, from_listing, may_keep_of, handed_in_of};
 

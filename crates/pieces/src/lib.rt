@@ -1,4 +1,6 @@
 // A listing that comes in pieces: a state is handed in and back, and the end call answers.
+#![tactic(auto)]
+
 ghost use Rattle.std.specs.Prelude.{◌≡◌, [], length};
 ghost use Rattle.refusals.specs.declared.Refusal.TheVariants.{None};
 ghost use Rattle.piece_state.specs.State.{keeping};

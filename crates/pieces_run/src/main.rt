@@ -4,6 +4,8 @@
 // the byte there, how many bytes have come, and the refusal. For each call it prints its refusal's number and, in a line with it, how
 // many bytes the state keeps or how many the end wrote; after an end the whole output. `tools/pieces-check --write` made stdin, and
 // from it stdout, by a model that shares nothing with the program.
+#![tactic(auto)]
+
 use piece_state::Pieces;
 
 fn main() {

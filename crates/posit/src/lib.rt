@@ -1,4 +1,6 @@
 // Posits of sixteen bits with one exponent bit: decoding, rounding and the sign. Each exists once, here.
+#![tactic(auto)]
+
 mod decoding;
 mod rounding;
 mod side;

@@ -1,4 +1,6 @@
 // Posits and f64: a pattern's number as an f64, and the pattern that an f64 rounds to.
+#![tactic(auto)]
+
 mod numbers;
 mod patterns;
 

@@ -1,6 +1,8 @@
 // Reads patterns from standard input, two bytes each, the low byte first, and writes the f64 of each as eight bytes, the low
 // byte first: eight FF bytes for NaR. A last odd byte is ignored. It ends at the first read or write that fails, and says so.
 // `tools/reals-check --write` made stdin, which is every pattern in order and an odd byte, and from it stdout, with exact fractions.
+#![tactic(auto)]
+
 ghost use Rattle.std.specs.Prelude.{◌≡◌, ◌+◌, ◌*◌, ◌≤◌, length, take};
 ghost use Rattle.std.proofs.lemmas.List.Edits.{sets};
 ghost use Rattle.io.specs.Counts.{IsPrefixLen};

@@ -1,4 +1,6 @@
 // Why a call was refused.
+#![tactic(auto)]
+
 ghost use Rattle.std.specs.Prelude.{◌≡◌};
 ghost use Rattle.refusals.specs.Refusals.{number_of, refusal_numbered};
 

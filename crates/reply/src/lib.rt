@@ -1,4 +1,6 @@
 // The reply to a listing.
+#![tactic(auto)]
+
 ghost use Rattle.std.specs.Prelude.{◌≡◌, length};
 ghost use Rattle.io.specs.Counts.{IsPrefixLen};
 ghost use Rattle.reply.specs.Reply.{reply_of, output_of};

@@ -2,6 +2,7 @@
 // output is and how long the listing, as 16-bit numbers, low byte first, and the listing. For each case it writes how many bytes
 // the reply has, as such a number, and the reply. `tools/listing-check ANSWERS --write` made stdin, and from it stdout, by a model
 // that shares nothing with the program.
+#![tactic(auto)]
 
 fn main() {
     let mut input = blocks::input_block();

@@ -1,4 +1,6 @@
 // The first two sections of a listing, functions and patterns.
+#![tactic(auto)]
+
 ghost use Rattle.std.specs.Prelude.{◌≡◌, ◌+◌, ◌*◌, ◌≤◌, length};
 ghost use Rattle.words.specs.Numbers.{numbers_at};
 ghost use Rattle.sections.specs.Order.{section_refusal_of, all_known_of, sections_of};

@@ -1,4 +1,6 @@
 // The span of a pattern: the f64s that convert to it (crates/span_laws).
+#![tactic(auto)]
+
 mod edges;
 
 ghost use Rattle.std.specs.Prelude.{◌≡◌, ◌^◌, ◌<◌, pos, ◌≢◌};

@@ -1,5 +1,7 @@
 // A listing's state between two pieces in 2,076 bytes, as the entries for C and Rust take it: the bytes so far and zeros after them,
 // 2,072 in all, how many they are, and the refusal's number.
+#![tactic(auto)]
+
 ghost use Rattle.std.specs.Prelude.{◌≡◌};
 ghost use Rattle.stored.specs.Stored.{state_in_of, handed_back};
 

@@ -1,4 +1,6 @@
 // The turn of a lever arm by heading, pitch and roll.
+#![tactic(auto)]
+
 mod arm;
 mod matrix;
 

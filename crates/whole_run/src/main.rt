@@ -3,6 +3,8 @@
 // Standard input is what oracle/record writes: ten tables of 65,536 16-bit answers in the order of the function numbers,
 // then 4,097 32-bit roots, all little-endian. One line is printed for each function, after a line for each of its first
 // answers that differ and for each of the points that document 01 names.
+#![tactic(auto)]
+
 use libc::{STDIN_FILENO, STDOUT_FILENO};
 
 mod points;

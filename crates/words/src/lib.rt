@@ -1,4 +1,6 @@
 // The 16-bit numbers in bytes, low byte first, and bytes as they are. Beyond the last byte zeros are read and nothing is written.
+#![tactic(auto)]
+
 ghost use Rattle.std.specs.Prelude.{◌≡◌, ◌+◌, ◌<◌, length};
 ghost use Rattle.std.proofs.lemmas.List.Edits.{sets};
 ghost use Rattle.words.specs.Numbers.{bytes_of, number_at_of};
