@@ -93,6 +93,9 @@ module _ (es n : ℕ) (few : 3 ≤ n) where
   in_order nought nought sx sy same_nought u v ru rv = let a = rank_nought u ru in let b = rank_nought v rv in omega arith
   in_order nought (plus c) sx sy to_plus u v ru rv = let a = rank_nought u ru in let b = rank_plus c v rv in omega arith
   in_order (minus c) nought sx sy from_minus u v ru rv = let a = rank_minus c u ru in let b = rank_nought v rv in omega arith
+  in_order nought (minus c') sx sy h u v ru rv = elim h [ ]
+  in_order (plus c) nought sx sy h u v ru rv = elim h [ ]
+  in_order (plus c) (minus c') sx sy h u v ru rv = elim h [ ]
   in_order (minus c) (plus c') sx sy across u v ru rv = let a = rank_minus c u ru in let b = rank_plus c' v rv in omega arith
   in_order (plus c) (plus c') sx sy (both_plus m) u v ru rv =
       let a = rank_plus c u ru in

@@ -3,6 +3,7 @@ ghost use Rattle.std.specs.Prelude.{◌≡◌, if◌then◌else◌};
 ghost use Rattle.posit.specs.Number.{opposite};
 
 // The pattern of minus p's number. 0 and NaR are their own.
+#[tactic(auto, unfolding(crate::specs::Number::opposite))]
 pub fn opposite(p: u16) -> u16
     ensures { result ≡ opposite 16 p }
 {
