@@ -1,5 +1,5 @@
 -- Decodings: of a pattern in units, of one without its sign bit, and that a magnitude has but one.
-use Rattle.std.proofs.Common.{◌≡◌, ℕ, zero, suc, ◌+◌, ◌-◌, ◌*◌, ◌/◌, ◌%◌, ◌^◌, ◌<◌, ◌≤◌, sym, refl, ap, ◌∙◌, subst, mul_assoc, add-mul, mul-le-mul, mul-lt-mul_of_pos_right, pow-suc, mul_right_comm, mul-div_cancel, arith, pow_pos, pow_mono, pow-add}
+use Rattle.std.proofs.Common.{◌≡◌, ℕ, suc, ◌+◌, ◌-◌, ◌*◌, ◌/◌, ◌%◌, ◌^◌, ◌<◌, ◌≤◌, sym, refl, ap, ◌∙◌, subst, mul_assoc, add-mul, mul-le-mul, mul-lt-mul_of_pos_right, pow-suc, mul_right_comm, mul-div_cancel, arith, pow_pos, pow_mono, pow-add}
 use native.Mathlib.Nat.{eq_of_mul-eq-mul_right}
 use native.Mathlib.Decide.{dec_lt}
 use lib.Pow.{mod-mod-pow}

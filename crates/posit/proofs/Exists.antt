@@ -1,5 +1,5 @@
 -- Every number has an answer: the one that `answer` computes.
-use Rattle.std.proofs.Common.{◌≡◌, ℕ, zero, suc, ◌+◌, ◌-◌, ◌%◌, ◌^◌, ◌<◌, ◌≤◌, Bool, true, false, ◌&&◌, leb, ◌⊎◌, sym, refl, ap, ◌∙◌, subst, inl, inr, ⊎_elim, eq-or-lt_of_le, pow-suc, zero-add, arith, pow_pos, pow_mono, eqb-true, le-leb, leb-true}
+use Rattle.std.proofs.Common.{◌≡◌, ℕ, zero, suc, ◌+◌, ◌-◌, ◌%◌, ◌^◌, ◌<◌, ◌≤◌, Bool, true, false, ◌&&◌, leb, sym, refl, ap, ◌∙◌, subst, inl, inr, ⊎_elim, eq-or-lt_of_le, pow-suc, zero-add, arith, pow_pos, pow_mono, eqb-true, le-leb, leb-true}
 use Prim.Native.Nat.{Ordering}
 use native.Mathlib.Decide.{dec_le}
 use borrow.Author.Tests.{lt-leb, eqb-false}

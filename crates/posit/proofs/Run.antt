@@ -1,5 +1,5 @@
 -- The run of a pattern, for every width.
-use Rattle.std.proofs.Common.{◌≡◌, ℕ, zero, suc, ◌+◌, ◌-◌, ◌*◌, ◌/◌, ◌%◌, ◌^◌, ◌<◌, ◌≤◌, Bool, true, false, eqb, sym, refl, ap, ◌∙◌, subst, lt_of_lt_of_le, mod-lt, mod-eq_of_lt, one-mul, pow-suc, one-add, arith, pow_pos, pow_mono, pow-add, eq-eqb, ne_eqb}
+use Rattle.std.proofs.Common.{◌≡◌, ℕ, zero, suc, ◌+◌, ◌*◌, ◌/◌, ◌%◌, ◌^◌, ◌<◌, ◌≤◌, Bool, true, false, eqb, sym, refl, ap, ◌∙◌, subst, lt_of_lt_of_le, mod-lt, mod-eq_of_lt, one-mul, pow-suc, one-add, arith, pow_pos, pow_mono, pow-add, eq-eqb, ne_eqb}
 use native.Mathlib.Nat.{div-eq_of_lt, mul-add-mod_self_right}
 use lib.Pow.{high, low, field, mod-mod-pow}
 use Rattle.posit.specs.Number.{run, bit}

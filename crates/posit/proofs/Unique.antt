@@ -1,5 +1,5 @@
 -- A larger number never gets a smaller answer; so a number has at most one answer.
-use Rattle.std.proofs.Common.{◌≡◌, ℕ, suc, ◌+◌, ◌-◌, ◌*◌, ◌^◌, ◌<◌, ◌≤◌, ◌⊎◌, sym, refl, ap, subst, ⊎_elim, le_antisymm, eq-or-lt_of_le, pow-suc, arith, pow_pos}
+use Rattle.std.proofs.Common.{◌≡◌, ℕ, suc, ◌+◌, ◌-◌, ◌*◌, ◌^◌, ◌<◌, ◌≤◌, sym, refl, ap, subst, ⊎_elim, le_antisymm, eq-or-lt_of_le, pow-suc, arith, pow_pos}
 use Prim.Native.Nat.{Ordering}
 use native.Mathlib.Decide.{dec_lt}
 use Rattle.posit.specs.Number.{unit}

@@ -8,7 +8,6 @@ use native.Mathlib.Nat.{mul-mod_left, zero-mod}
 use lib.Pow.{split, mod-pow-add, mod-mod-pow}
 use Rattle.posit.specs.Rounding.{ratio, Rounded}
 use Rattle.posit.specs.Sides.{stands, lies}
-use Rattle.posit.specs.declared.side.Side.{Side}
 use Rattle.posit.specs.declared.side.Side.TheVariants.{Below, On, Above}
 use Rattle.posit.proofs.Value.{floated}
 use Rattle.posit.proofs.Shapes.{index}

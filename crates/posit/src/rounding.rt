@@ -95,9 +95,9 @@ fn below(m: u64, f: u64) -> bool
 
 // e counted from -200, and held between 0 and 400: beyond these the answers are the smallest and the largest posit.
 fn offset(e: i32) -> u32
-    ensures e_bound { result < 400 → up e * 2 ^ 200 ≤ 2 ^ result * down e }
-    ensures e_bound_2 { 0 < result → 2 ^ result * down e ≤ up e * 2 ^ 200 }
-    ensures upper_bound { result ≤ 400 }
+    ensures at_most { result < 400 → up e * 2 ^ 200 ≤ 2 ^ result * down e }
+    ensures at_least { 0 < result → 2 ^ result * down e ≤ up e * 2 ^ 200 }
+    ensures held { result ≤ 400 }
 {
     if e < -200 {
         return 0;

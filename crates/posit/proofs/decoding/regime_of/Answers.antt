@@ -1,5 +1,5 @@
 -- r is small, on either side of zero, and twice it, counted from -28, is not below zero.
-use Rattle.std.proofs.Common.{◌≡◌, ℕ, zero, suc, ◌+◌, ◌-◌, ◌*◌, ◌^◌, ◌<◌, ◌≤◌, Bool, true, false, cond, T, ℤ, pos, negsuc, ◌+ℤ◌, ◌-ℤ◌, ◌*ℤ◌, neg_ℤ, nat_abs, refl, ap, ◌∙◌, arith, to_z-of_z, w32, Fits, SFits, to_z, of_z, le-ltb, lt-ltb}
+use Rattle.std.proofs.Common.{◌≡◌, ℕ, zero, suc, ◌-◌, ◌*◌, ◌^◌, ◌<◌, ◌≤◌, Bool, true, false, cond, T, ℤ, pos, negsuc, ◌+ℤ◌, ◌-ℤ◌, ◌*ℤ◌, neg_ℤ, nat_abs, refl, ap, ◌∙◌, arith, to_z-of_z, w32, Fits, SFits, to_z, of_z, le-ltb, lt-ltb}
 use mathlib.Core.Path.{subst⁻¹}
 use lib.Signed.{mag, non_neg}
 use mir.Facts.{to_z_pos, Fits-of_lt}

@@ -1,5 +1,5 @@
 -- The highest one of what is counted is that of `Counts`.
-use Rattle.std.proofs.Common.{◌≡◌, ℕ, ◌+◌, ◌*◌, ◌/◌, ◌^◌, ◌<◌, ◌≤◌, ◌⊎◌, inl, inr, ⊎_elim, arith, cond, leb, le-leb, ◌∙◌}
+use Rattle.std.proofs.Common.{◌≡◌, ℕ, ◌+◌, ◌*◌, ◌/◌, ◌^◌, ◌<◌, ◌≤◌, ◌⊎◌, inl, inr, ⊎_elim, arith, cond, leb, le-leb}
 use borrow.Author.Tests.{lt-leb}
 use lib.Count.{leading_top, count_leading_zeros}
 use Rattle.posit.specs.Number.{bit, run}

@@ -1,6 +1,6 @@
 -- What stands before x is a multiple of 2 ^ k, so the shift leaves it whole; in a word below zero, whose number counts down from
 -- -1, the shift counts down alike.
-use Rattle.std.proofs.Common.{◌≡◌, ℕ, suc, ◌+◌, ◌-◌, ◌*◌, ◌/◌, ◌%◌, ◌^◌, ◌<◌, ◌≤◌, cond, ℤ, pos, ◌+ℤ◌, sym, ap, ◌∙◌, ⊎_elim, lt_of_le_of_lt, mod-lt, div-lt_iff_lt-mul, add-mul, div-add-mod', arith, pow_pos, pow_mono, pow-add, to_z-of_z, w64, SFits, to_z, of_z, lt-ltb}
+use Rattle.std.proofs.Common.{◌≡◌, ℕ, suc, ◌+◌, ◌-◌, ◌*◌, ◌/◌, ◌%◌, ◌^◌, ◌<◌, ◌≤◌, cond, ℤ, pos, ◌+ℤ◌, sym, ap, ◌∙◌, lt_of_le_of_lt, mod-lt, div-lt_iff_lt-mul, add-mul, div-add-mod', arith, pow_pos, pow_mono, pow-add, to_z-of_z, w64, SFits, to_z, of_z, lt-ltb}
 use native.Mathlib.Nat.{mul-add-div_right}
 use lib.Arith.{digits_div}
 use lib.Signed.{lt_z, shr_z, mag_shr}

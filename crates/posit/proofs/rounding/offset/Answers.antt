@@ -1,9 +1,9 @@
 -- Within -200 and 200 the sum with 200 is the power itself, and beyond them only the side that is held is asked for.
-use Rattle.std.proofs.Common.{◌≡◌, ℕ, suc, ◌+◌, ◌-◌, ◌*◌, ◌^◌, ◌<◌, ◌≤◌, true, false, T, ltb, ℤ, pos, negsuc, ◌+ℤ◌, nat_abs, sym, ap, ◌∙◌, subst, le_of_eq, one-mul, mul-one, arith, pow_mono, pow-add, to_z-of_z, w32, Fits, SFits, to_z, of_z, ltb-false, ltb-true, le-ltb}
+use Rattle.std.proofs.Common.{◌≡◌, ℕ, suc, ◌+◌, ◌-◌, ◌*◌, ◌^◌, ◌<◌, ◌≤◌, true, false, T, ltb, ℤ, pos, negsuc, ◌+ℤ◌, nat_abs, sym, ap, ◌∙◌, subst, le_of_eq, one-mul, mul-one, arith, pow_mono, pow-add, to_z-of_z, w32, SFits, to_z, of_z, ltb-false, ltb-true, le-ltb}
 use mathlib.Core.Path.{subst⁻¹}
 use lib.Ieee.{up, down}
-use lib.Signed.{lt_z, non_neg}
-use mir.Facts.{to_z_pos, Fits-of_lt}
+use lib.Signed.{lt_z}
+use mir.Facts.{to_z_pos}
 use Rattle.posit.proofs.rounding.offset.Goals as goal
 
 far_below : (z : ℤ) → lt_z z (negsuc 199) ≡ true → up z * 2 ^ 200 ≤ 2 ^ 0 * down z
@@ -46,25 +46,25 @@ module _ (e : ℤ) (fits : SFits w32 e) (low : lt_z (to_z w32 (of_z w32 e)) (neg
   powers : up e * 2 ^ 200 ≡ 2 ^ here.k * down e
   powers = subst (λ (x : ℤ). up x * 2 ^ 200 ≡ 2 ^ here.k * down x) (to_z-of_z fits) here.same
 
-pub returns-then-e-ltminus200-clause-e_bound : goal.returns-then-e-ltminus200-clause-e_bound
-returns-then-e-ltminus200-clause-e_bound c =
+pub returns-then-e-ltminus200-clause-at_most : goal.returns-then-e-ltminus200-clause-at_most
+returns-then-e-ltminus200-clause-at_most c =
     λ l. subst (λ (x : ℤ). up x * 2 ^ 200 ≤ 2 ^ 0 * down x) (to_z-of_z c.ranges.e)
     (far_below (to_z w32 (of_z w32 c.args.e)) c.if-e-ltminus200.true)
 
-pub returns-then-e-gt200-clause-e_bound_2 : goal.returns-then-e-gt200-clause-e_bound_2
-returns-then-e-gt200-clause-e_bound_2 c =
+pub returns-then-e-gt200-clause-at_least : goal.returns-then-e-gt200-clause-at_least
+returns-then-e-gt200-clause-at_least c =
     λ l. subst (λ (x : ℤ). 2 ^ 400 * down x ≤ up x * 2 ^ 200) (to_z-of_z c.ranges.e)
     (far_above (to_z w32 (of_z w32 c.args.e)) c.if-e-gt200.true)
 
-pub returns-clause-e_bound : goal.returns-clause-e_bound
-returns-clause-e_bound c =
+pub returns-clause-at_most : goal.returns-clause-at_most
+returns-clause-at_most c =
     let low = c.if-e-ltminus200.false in
     let high = c.if-e-gt200.false in
     subst⁻¹ (λ (x : ℤ). nat_abs x < 400 → up c.args.e * 2 ^ 200 ≤ 2 ^ nat_abs x * down c.args.e) (read c.args.e c.ranges.e low high)
     (λ l. le_of_eq (powers c.args.e c.ranges.e low high))
 
-pub returns-clause-e_bound_2 : goal.returns-clause-e_bound_2
-returns-clause-e_bound_2 c =
+pub returns-clause-at_least : goal.returns-clause-at_least
+returns-clause-at_least c =
     let low = c.if-e-ltminus200.false in
     let high = c.if-e-gt200.false in
     subst⁻¹ (λ (x : ℤ). 0 < nat_abs x → 2 ^ nat_abs x * down c.args.e ≤ up c.args.e * 2 ^ 200) (read c.args.e c.ranges.e low high)
