@@ -58,6 +58,7 @@ fn put_cut_number(output: &mut [u8], at: usize, number: u16)
 }
 
 // Writes the bytes of `input` into the first places of `output`, as many as there are.
+#[tactic(auto, using(crate::proofs::Writing::sets_enough))]
 pub fn copy(input: &[u8], output: &mut [u8])
     ensures { output.new ≡ sets output.old 0 input.now }
 {
