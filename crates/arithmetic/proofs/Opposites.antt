@@ -1,18 +1,18 @@
 -- Minus a pattern's number is the number of the opposite pattern: so the opposite is what negation rounds to, and a difference
 -- is the sum with the opposite.
-use Prim.Native.Nat.{ℕ, ◌+◌, ◌-◌, ◌≤◌, ◌<◌}
+use Prim.Native.Nat.{ℕ, ◌-◌, ◌<◌}
 use mathlib.Core.Path.{◌≡◌, ◌∙◌, ap, sym, refl}
 use native.Mathlib.Omega.{arith}
 use native.Mathlib.Decide.{dec_lt, ℕ_discrete}
 use native.Mathlib.Nat.{mod-lt}
 use lib.Dec.{lit≤}
-use lib.IntN.{ℤ, pos, neg_ℤ, neg_ℤ-neg_ℤ, ◌+ℤ◌, ◌-ℤ◌}
+use lib.IntN.{pos, neg_ℤ, neg_ℤ-neg_ℤ, ◌+ℤ◌, ◌-ℤ◌}
 use Rattle.posit.specs.Number.{Number, nar, real, number, magnitude, opposite}
 use Rattle.posit.specs.Rounding.{over}
 use Rattle.posit.proofs.Complement.{opposite-zero, opposite_is, opposite_twice}
 use Rattle.posit.proofs.Patterns.{number-zero, number_nar, number_plus, number_minus}
 use Rattle.posit.proofs.Own.{own}
-use Rattle.rows.specs.Rows.{rounds, Meets}
+use Rattle.rows.specs.Rows.{Meets}
 use Rattle.arithmetic.proofs.Exact.{number_units}
 use Rattle.arithmetic.specs.Operations.{of_one, of_two, negation, sum, difference}
 
