@@ -40,6 +40,7 @@ fn kernel(p: u16) -> Sided
     posit::round_sided(0x400_0000 + f, crate::fixed::less((t >> 28) % 64, 32 + 26))
 }
 
+#[tactic(auto, unfolding(crate::specs::Exp2::poly))]
 fn exp2_poly(f: u64) -> u64
     requires { f < 2 ^ 20 }
     ensures value { result ≡ poly f }
