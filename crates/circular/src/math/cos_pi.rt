@@ -33,6 +33,7 @@ fn cosine_of(x: u64) -> Sided
 }
 
 // The magnitude of the cosine in the quadrant q, from the rest r.
+#[tactic(auto, unfolding(crate::specs::CosPi::unsigned))]
 fn unsigned_cosine(q: u64, r: u64) -> Sided
     requires { (q < 4) × (r < 2 ^ 27) }
     ensures { MeetsSided (unsigned q r) result }
@@ -44,6 +45,7 @@ fn unsigned_cosine(q: u64, r: u64) -> Sided
     posit::round_sided(k, -25)
 }
 
+#[tactic(auto, unfolding(crate::specs::CosPi::poly))]
 fn cos_poly(f: u64) -> u64
     requires { f < 2 ^ 27 }
     ensures value { result ≡ poly f }
@@ -56,6 +58,7 @@ fn cos_poly(f: u64) -> u64
     }
 }
 
+#[tactic(auto, unfolding(crate::specs::CosPi::series))]
 fn cos_series(fs: u64) -> u64
     requires { fs < 2 ^ 16 }
     ensures value { result ≡ series fs }

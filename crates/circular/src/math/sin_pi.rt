@@ -34,6 +34,7 @@ fn sine_of(x: u64) -> Sided
 }
 
 // The magnitude of the sine in the quadrant q, from the rest r.
+#[tactic(auto, unfolding(crate::specs::SinPi::unsigned))]
 fn unsigned_sine(q: u64, r: u64) -> Sided
     requires { (q < 4) × (r < 2 ^ 27) }
     ensures { MeetsSided (unsigned q r) result }
@@ -44,6 +45,7 @@ fn unsigned_sine(q: u64, r: u64) -> Sided
     posit::round_sided(sin_poly(crate::quadrant::reflect(q, r)), -28)
 }
 
+#[tactic(auto, unfolding(crate::specs::SinPi::poly))]
 fn sin_poly(f: u64) -> u64
     requires { f < 2 ^ 27 }
     ensures { result ≡ poly f }
@@ -55,6 +57,7 @@ fn sin_poly(f: u64) -> u64
     }
 }
 
+#[tactic(auto, unfolding(crate::specs::SinPi::series))]
 fn sin_series(fs: u64) -> u64
     requires { fs < 2 ^ 16 }
     ensures { result ≡ series fs }

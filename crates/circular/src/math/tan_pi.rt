@@ -31,6 +31,7 @@ pub fn tan_pi(p: u16) -> u16
 }
 
 // The tangent of r / 2^28 half-turns. At a half there is none; past it the argument is reflected, and the sign changes.
+#[tactic(auto, unfolding(crate::specs::TanPi::remainder))]
 fn tangent(r: u64) -> Sided
     requires { r < 2 ^ 28 }
     ensures { MeetsSided (remainder r) result }
@@ -54,6 +55,7 @@ fn tangent(r: u64) -> Sided
 }
 
 // Safe for arguments above 0 and below 2^27, where the denominator stays above zero.
+#[tactic(auto, unfolding(crate::specs::TanPi::poly))]
 fn tan_poly(f: u64) -> u64
     requires { (0 < f) × (f < 2 ^ 27) }
     ensures value { result ≡ poly f }
@@ -66,6 +68,7 @@ fn tan_poly(f: u64) -> u64
     tan_numerator(fs) / tan_denominator(fs)
 }
 
+#[tactic(auto, unfolding(crate::specs::TanPi::denominator))]
 fn tan_denominator(fs: u64) -> u64
     requires { fs < 2 ^ 18 }
     ensures value { result ≡ denominator fs }
@@ -76,6 +79,7 @@ fn tan_denominator(fs: u64) -> u64
     0x0800_0000 - ((fsq * (295_106_440 - a)) >> 27)
 }
 
+#[tactic(auto, unfolding(crate::specs::TanPi::numerator))]
 fn tan_numerator(fs: u64) -> u64
     requires { fs < 2 ^ 18 }
     ensures value { result ≡ numerator fs }
