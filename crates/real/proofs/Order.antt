@@ -63,7 +63,11 @@ pub one_way : (x y : Float) → T (le x y) → T (finite y) → (u v : ℕ) → 
 unfolding le
 one_way nan y h f u v a b = absurd h
 one_way (inf true) y h f u v a b = let k : rank 16 u ≡ 0 = ap (rank 16) a in omega arith
+one_way (inf false) nan h f u v a b = elim h [ ]
+one_way (inf false) (inf t) h f u v a b = elim f [ ]
 one_way (inf false) (fin t n d) h f u v a b = absurd h
+one_way (fin s m e) nan h f u v a b = elim h [ ]
+one_way (fin s m e) (inf t) h f u v a b = elim f [ ]
 one_way (fin s m e) (fin t n d) h f u v a b =
     in_order 1 16 (omega arith) (dyadic (with_sign s m) e) (dyadic (with_sign t n) d) (dyadic_straight (with_sign s m) e) (dyadic_straight (with_sign t n) d)
     (no_more s m e t n d h) u v a b
