@@ -22,7 +22,8 @@ returns-then-size-eq0 c =
 pub returns : goal.returns
 returns c =
     let p = c.args.p in
+    let u = c.cosine_of in
     let some = low_some p (rw c.signed-size.ensures at c.if-size-eq0.false) in
     rw (by_magnitude p some.0 some.1)
-    (subst (λ (y : ℕ). MeetsSided (cosine y) c.cosine_of.result) (c.units.ensures ∙ ap (magnitude 1 16) c.signed-size.ensures)
-    c.cosine_of.ensures)
+    (subst (λ (y : ℕ). MeetsSided (cosine y) u.result) (c.units.ensures ∙ ap (magnitude 1 16) c.signed-size.ensures)
+    u.ensures)

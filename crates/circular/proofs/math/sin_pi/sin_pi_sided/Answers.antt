@@ -29,7 +29,8 @@ returns c =
     let s = c.signed-size in
     let sized : s.result ≡ size 16 p = s.ensures ∙ size_by_bit p in
     let number : p ≡ 0x8000 → ⊥ = λ e. (let q : s.result ≡ 0x8000 = sized ∙ ap (size 16) e in omega arith) in
-    let u = c.sine_of.result in
+    let u = c.sine_of in
+    let a = c.signed_sided in
     sign-back sine-odd p (omega arith) s.result sized number (omega arith) (λ e. omega arith)
-    c.units.result u c.signed_sided.result c.units.ensures c.sine_of.ensures
-    (c.signed_sided.ensures ∙ ap (λ (b : Bool). cond b (negated_sided u) u) (sign_bit p number))
+    c.units.result u.result a.result c.units.ensures u.ensures
+    (a.ensures ∙ ap (λ (b : Bool). cond b (negated_sided u.result) u.result) (sign_bit p number))

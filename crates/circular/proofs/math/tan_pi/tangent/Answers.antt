@@ -6,7 +6,8 @@ use Rattle.circular.proofs.math.tan_pi.tangent.Goals as goal
 pub returns : goal.returns
 returns c =
     let k = c.tan_poly-k in
+    let u = c.round_sided-size in
     let e : k.result % 2 ^ 49 ≡ k.result = mod-eq_of_lt k.ensures.upper_bound in
     rw c.signed_sided.ensures
     (by_half c.args.r c.if-r-eq0.false c.if-r-eq134217728.false c.if-r-eq67108864.false c.if-r-eq201326592.false k.result
-    c.round_sided-size.result (rw e at c.round_sided-size.ensures) c.requires refl c.reflect.ensures.value k.ensures.value)
+    u.result (rw e at u.ensures) c.requires refl c.reflect.ensures.value k.ensures.value)
