@@ -28,6 +28,17 @@ written_more l i vs ws end end' left left' w w' = (
   w'.1 ∙ ap (λ (m : List ℕ). sets m end ws) w.1 ∙ ap (λ (n : ℕ). sets (sets l i vs) n ws) w.0 ∙ sym (sets_append l i vs ws),
 )
 
+-- five pieces and one more byte, each written right after the one before
+pub line_written : (l : List ℕ) (i : ℕ) (vs₁ vs₂ vs₃ vs₄ vs₅ : List ℕ) (i₁ i₂ i₃ i₄ i₅ v : ℕ) (l₁ l₂ l₃ l₄ l₅ : List ℕ)
+    → Written l i vs₁ i₁ l₁ → Written l₁ i₁ vs₂ i₂ l₂ → Written l₂ i₂ vs₃ i₃ l₃ → Written l₃ i₃ vs₄ i₄ l₄ → Written l₄ i₄ vs₅ i₅ l₅
+    → set l₅ i₅ v ≡ sets l i (vs₁ ++ vs₂ ++ vs₃ ++ vs₄ ++ vs₅ ++ (v ∷ []))
+line_written l i vs₁ vs₂ vs₃ vs₄ vs₅ i₁ i₂ i₃ i₄ i₅ v l₁ l₂ l₃ l₄ l₅ w₁ w₂ w₃ w₄ w₅ =
+    let two = written_more l i vs₁ vs₂ i₁ i₂ l₁ l₂ w₁ w₂ in
+    let three = written_more l i (vs₁ ++ vs₂) vs₃ i₂ i₃ l₂ l₃ two w₃ in
+    let four = written_more l i (vs₁ ++ vs₂ ++ vs₃) vs₄ i₃ i₄ l₃ l₄ three w₄ in
+    let five = written_more l i (vs₁ ++ vs₂ ++ vs₃ ++ vs₄) vs₅ i₄ i₅ l₄ l₅ four w₅ in
+    (written_more l i (vs₁ ++ vs₂ ++ vs₃ ++ vs₄ ++ vs₅) (v ∷ []) i₅ (i₅ + 1) l₅ (set l₅ i₅ v) five (refl, refl)).1
+
 -- at most `most` of the places that are left are taken
 pub written_room : (l : List ℕ) (i : ℕ) (vs : List ℕ) (end : ℕ) (left : List ℕ) (room most : ℕ)
     → Written l i vs end left → length vs ≤ most → i + (room + most) ≤ length l → end + room ≤ length left

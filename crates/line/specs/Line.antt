@@ -1,7 +1,7 @@
 -- Document 02, P1: "Each place that differs gives one line, five decimal numbers a space apart, patterns and answers unsigned": the
 -- function's number, the pattern, both answers, and "how many patterns apart they are, the second less the first with both read as
 -- signed numbers". The bytes of such a line.
-use Rattle.std.specs.Prelude.{ℕ, zero, suc, ◌+◌, ◌-◌, ◌/◌, ◌%◌, cond, List, [], ◌∷◌, ◌++◌, ℤ, pos, negsuc, ◌-ℤ◌, nat_lt}
+use Rattle.std.specs.Prelude.{ℕ, zero, suc, ◌+◌, ◌/◌, ◌%◌, cond, List, [], ◌∷◌, ◌++◌, ℤ, pos, negsuc, ◌-ℤ◌, nat_lt}
 use Rattle.std.proofs.Math.IntN.{sub_ℕ}
 
 -- the last k decimal digits of n, in ASCII

@@ -7,6 +7,7 @@ ghost use Rattle.line.specs.Line.{digits, width, decimal, field, integer, apart,
 
 // Writes the line of a place that differs from the place `at` on: function, pattern, both answers and how far apart they are.
 // Answers how many bytes it has. Where fewer than 31 bytes are left it writes nothing.
+#[tactic(auto, using(crate::proofs::Digits::field_most, crate::proofs::Digits::integer_most, words::proofs::Writing::sets_append), unfolding(crate::specs::Line::line_of))]
 pub fn put_line(
     output: &mut [u8],
     at: usize,
@@ -61,6 +62,7 @@ fn put_apart(output: &mut [u8], at: usize, first: u16, second: u16) -> usize
 }
 
 // Writes a number and the byte after it, and answers the place after both.
+#[tactic(auto, using(crate::proofs::Digits::decimal_most, words::proofs::Writing::sets_append))]
 fn put_field(output: &mut [u8], at: usize, n: u16, after: u8) -> usize
     requires { at + 6 ≤ length output.old }
     ensures value { result ≡ at + length (field n after) }
@@ -72,6 +74,7 @@ fn put_field(output: &mut [u8], at: usize, n: u16, after: u8) -> usize
 }
 
 // Writes a number in decimal, and answers the place after it.
+#[tactic(auto, using(crate::proofs::Digits::length_digits), unfolding(crate::specs::Line::decimal))]
 fn put_decimal(output: &mut [u8], at: usize, n: u16) -> usize
     requires { at + 5 ≤ length output.old }
     ensures value { result ≡ at + length (decimal n) }

@@ -1,6 +1,6 @@
 -- The refusals and their numbers, for every call. Document 01: "1 function number outside 1 to 10; 2 output shorter than the
 -- input (batch) or than the answered listing; 3 start beyond the input's length; 4 a count or a section is cut short; 5 a count
--- outside its limits; 6 bytes after the patterns". Document 02, P1: "7 for a count that is not F-as-N, .. 6 for bytes after the
+-- outside its limits; 6 bytes after the patterns". Document 02, P1: "7 for a count that is not F·N, .. 6 for bytes after the
 -- answers; .. 8, the two listings ask different things". P6: "12 .., a handed-in state that no calls from a fresh one produce". And
 -- which of two comes first.
 use Rattle.std.specs.Prelude.{ℕ, Bool, cond, eqb}
