@@ -17,6 +17,7 @@ pub enum AnsweredSided {
 }
 
 // The answer of the function with that number; no function has a number outside 1 to 10.
+#[tactic(auto, using(crate::proofs::ByNumber::meets_answer), unfolding(crate::specs::Functions::answer_of))]
 pub fn answer(function: u16, p: u16) -> Answered
     ensures { Answers function p result }
 {
@@ -56,6 +57,7 @@ pub fn answer_or_nar(function: u16, p: u16) -> u16
 }
 
 // The answer of the function with that number, and the side on which it lies of the number that was rounded.
+#[tactic(auto, unfolding(crate::specs::Functions::row_of))]
 pub fn answer_sided(function: u16, p: u16) -> AnsweredSided
     ensures { AnswersSided function p result }
 {
