@@ -65,6 +65,7 @@ module _ (u : ℕ) (least : 1 ≤ u) (top : u < 2 ^ 15) where
     high = dividing 1 16 u * D
 
     lower : (κ : Edge) (a : ℕ) → Least u κ a → ((u ≡ 1) ⊎ Reached (compare low X) u) ↔ Sized κ false (a * D) false X
+    lower Missing a l = elim l [ ]
     lower Excluded a (first e) = (λ r. let z = zero-mul D in let k = mul-pos some (pow_pos 30) in omega arith, λ h. inl e)
     lower Included a (from_even l e) =
         (λ r. ⊎_elim (λ f. absurd (omega arith)) (λ k. reached_le low X u (compare low X) (told low X) k) r, λ h. inr (reached low X u h (λ f. e)))
@@ -87,11 +88,13 @@ module _ (u : ℕ) (least : 1 ≤ u) (top : u < 2 ^ 15) where
   edge_some D l d = mul-pos (magnitude_some 1 17 (2 * (u - 1) + 1) (omega arith) (omega arith) (omega arith)) d
 
   not_zero : (κ : Edge) (a D X : ℕ) → Least u κ a → 0 < D → X ≡ 0 → Sized κ false (a * D) false X → ⊥
+  not_zero Missing a D X l d z h = elim l [ ]
   not_zero Excluded a D X (first e) d z h = omega arith
   not_zero Included a D X (from_even l e) d z h = let k = edge_some D l d in omega arith
   not_zero Excluded a D X (from_odd l e) d z h = omega arith
 
   not_below : (κ : Edge) (a D X : ℕ) → Least u κ a → 0 < D → Sized κ false (a * D) true X → ⊥
+  not_below Missing a D X l d h = elim l [ ]
   not_below Excluded a D X (first e) d h = h
   not_below Included a D X (from_even l e) d h = let k = edge_some D l d in omega arith
   not_below Excluded a D X (from_odd l e) d h = h
