@@ -7,7 +7,7 @@ ghost use Rattle.line.specs.Line.{digits, width, decimal, field, integer, apart,
 
 // Writes the line of a place that differs from the place `at` on: function, pattern, both answers and how far apart they are.
 // Answers how many bytes it has. Where fewer than 31 bytes are left it writes nothing.
-#[tactic(auto, using(crate::proofs::Digits::field_most, crate::proofs::Digits::integer_most, words::proofs::Writing::sets_append), unfolding(crate::specs::Line::line_of))]
+#[tactic(auto, using(crate::proofs::Digits::field_most, crate::proofs::Digits::integer_most))]
 pub fn put_line(
     output: &mut [u8],
     at: usize,

@@ -1,8 +1,15 @@
 -- The fields, the difference and the newline stand one after the other.
-use Rattle.std.proofs.Common.{◌-◌, length, arith}
+use Rattle.std.proofs.Common.{ℕ, ◌-◌, length, ap, arith, length-append}
 use Rattle.line.specs.Line.{line_of}
 use Rattle.line.proofs.Writing.{line_written, fitted-all}
 use Rattle.line.proofs.put_line.Goals as goal
+
+pub returns-clause-value : goal.returns-clause-value
+unfolding line_of
+returns-clause-value c =
+    let a = c.args in
+    let whole = fitted-all (length a.output.now - a.at) (line_of a.function a.pattern a.first a.second) (omega arith) in
+    omega (arith, ap length whole, length-append {A = ℕ})
 
 pub returns-clause-output_after : goal.returns-clause-output_after
 unfolding line_of
