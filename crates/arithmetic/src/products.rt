@@ -21,6 +21,7 @@ fn parts_of(p: u16) -> Parts
     }
 }
 
+#[tactic(auto, using(crate::proofs::Exact::nar_times, crate::proofs::Exact::times_nar))]
 pub fn multiply(a: u16, b: u16) -> u16
     ensures { Meets (product a b) result }
 {

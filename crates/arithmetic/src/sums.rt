@@ -38,6 +38,7 @@ fn round_units(v: i64) -> u16
 }
 
 // Minus p's number, which is always a posit's.
+#[tactic(auto, using(crate::proofs::Opposites::negated))]
 pub fn negate(p: u16) -> u16
     ensures value { result ≡ opposite 16 p }
     ensures meets { Meets (negation p) result }
@@ -45,6 +46,7 @@ pub fn negate(p: u16) -> u16
     posit::opposite(p)
 }
 
+#[tactic(auto, using(crate::proofs::Exact::nar_plus, crate::proofs::Exact::plus_nar))]
 pub fn add(a: u16, b: u16) -> u16
     ensures { Meets (sum a b) result }
 {

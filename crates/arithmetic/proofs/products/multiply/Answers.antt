@@ -1,4 +1,4 @@
--- NaR with anything, and the two numbers, taken apart, and their product.
+-- The two numbers, taken apart, and their product.
 use Rattle.std.proofs.Common.{◌≡◌, ℕ, ◌+◌, ◌*◌, ◌%◌, ◌^◌, ◌≤◌, ℤ, pos, negsuc, ◌-ℤ◌, ◌*ℤ◌, ap, subst, ◌∙◌, arith, w32, FitsSigned, to_z, of_z, to_z-of_z}
 use mathlib.Core.Path.{subst⁻¹}
 use lib.Dec.{ltb}
@@ -7,14 +7,8 @@ use mir.Facts.{to_z_pos}
 use Rattle.posit.specs.Rounding.{Known, dyadic, over, Rounds}
 use Rattle.rows.proofs.Whole.{mag_small}
 use Rattle.arithmetic.specs.Sizes.{units_in, signed_units}
-use Rattle.arithmetic.proofs.Exact.{times, rounds_signed, product-scaled, nar_times, times_nar, reals_times}
+use Rattle.arithmetic.proofs.Exact.{times, rounds_signed, product-scaled, reals_times}
 use Rattle.arithmetic.proofs.products.multiply.Goals as goal
-
-pub returns-then-a-eq32768 : goal.returns-then-a-eq32768
-returns-then-a-eq32768 c = nar_times c.args.a c.args.b c.args.a c.if-a-eq32768.true c.if-a-eq32768.true
-
-pub returns-then-b-eq32768 : goal.returns-then-b-eq32768
-returns-then-b-eq32768 c = times_nar c.args.a c.args.b c.args.b c.if-b-eq32768.true c.if-b-eq32768.true
 
 -- the sum of the two powers, and that less 80, in 32 bits
 power : (n : ℕ) → n ≤ 114 → to_z w32 (of_z w32 (to_z w32 (n % 128) -ℤ pos 80)) ≡ pos n -ℤ pos 80

@@ -1,15 +1,9 @@
--- NaR with anything, and the two numbers and their sum in 64 bits.
+-- The two numbers and their sum in 64 bits.
 use Rattle.std.proofs.Common.{◌≡◌, ◌^◌, ◌≤◌, ℤ, ◌+ℤ◌, ap, subst, ◌∙◌, arith, w64, to_z, of_z}
 use lib.Signed.{mag}
 use Rattle.posit.specs.Rounding.{over, Rounds}
-use Rattle.arithmetic.proofs.Exact.{kept, mag_sum, nar_plus, plus_nar, reals_plus}
+use Rattle.arithmetic.proofs.Exact.{kept, mag_sum, reals_plus}
 use Rattle.arithmetic.proofs.sums.add.Goals as goal
-
-pub returns-then-a-eq32768 : goal.returns-then-a-eq32768
-returns-then-a-eq32768 c = nar_plus c.args.a c.args.b c.args.a c.if-a-eq32768.true c.if-a-eq32768.true
-
-pub returns-then-b-eq32768 : goal.returns-then-b-eq32768
-returns-then-b-eq32768 c = plus_nar c.args.a c.args.b c.args.b c.if-b-eq32768.true c.if-b-eq32768.true
 
 whole : (x y : ℤ) → mag x ≤ 2 ^ 56 → mag y ≤ 2 ^ 56 → to_z w64 (of_z w64 (to_z w64 (of_z w64 x) +ℤ to_z w64 (of_z w64 y))) ≡ x +ℤ y
 whole x y h k =

@@ -138,7 +138,7 @@ returns-then-p-lt0 c =
     let o = c.offset.ensures in
     let w = known c.args.m c.offset.result c.args.e c.if-m-eq0.false c.ranges.m.fits c.ranges.e (record { at_most = o.at_most; at_least = o.at_least }) o.held in
     too_small c.args.m c.offset.result c.args.e w
-    (elim c.if-p-gtminus29.branch [ then-p-gtminus29+else-p-lt28 d ↦ inr d.if-p-lt28.false | else-p-gtminus29 d ↦ inl d.if-p-gtminus29.false ]) c.if-p-lt0.true
+    (elim c.if-p-gtminus29.branch [ then-p-gtminus29+else-p-lt28 x ↦ inr x.if-p-lt28.false | else-p-gtminus29 d ↦ inl d.if-p-gtminus29.false ]) c.if-p-lt0.true
 
 pub returns-then-f : goal.returns-then-f
 returns-then-f c =
@@ -146,7 +146,7 @@ returns-then-f c =
     let w = known c.args.m c.offset.result c.args.e c.if-m-eq0.false c.ranges.m.fits c.ranges.e (record { at_most = o.at_most; at_least = o.at_least }) o.held in
     subst⁻¹ (RoundsSided 1 16 (dyadic (pos c.args.m) c.args.e)) c.outright-then-f.ensures
     (on_it c.args.m c.offset.result c.args.e w
-    (elim c.if-p-gtminus29.branch [ then-p-gtminus29+else-p-lt28 d ↦ inr d.if-p-lt28.false | else-p-gtminus29 d ↦ inl d.if-p-gtminus29.false ])
+    (elim c.if-p-gtminus29.branch [ then-p-gtminus29+else-p-lt28 y ↦ inr y.if-p-lt28.false | else-p-gtminus29 d ↦ inl d.if-p-gtminus29.false ])
     c.if-p-lt0.false c.if-p-lt29.true c.if-f.true)
 
 pub returns-else-f : goal.returns-else-f
@@ -154,7 +154,7 @@ returns-else-f c =
     let o = c.offset.ensures in
     let w = known c.args.m c.offset.result c.args.e c.if-m-eq0.false c.ranges.m.fits c.ranges.e (record { at_most = o.at_most; at_least = o.at_least }) o.held in
     under c.args.m c.offset.result c.args.e w
-    (elim c.if-p-gtminus29.branch [ then-p-gtminus29+else-p-lt28 d ↦ inr d.if-p-lt28.false | else-p-gtminus29 d ↦ inl d.if-p-gtminus29.false ])
+    (elim c.if-p-gtminus29.branch [ then-p-gtminus29+else-p-lt28 h ↦ inr h.if-p-lt28.false | else-p-gtminus29 d ↦ inl d.if-p-gtminus29.false ])
     c.if-p-lt0.false c.if-f.false
 
 pub returns-else-p-lt29 : goal.returns-else-p-lt29
