@@ -1,5 +1,5 @@
 -- What it rounds is row 1's number.
-use Rattle.std.proofs.Common.{◌≡◌, ℕ, ◌*◌, ◌/◌, ◌^◌, ◌<◌, ◌≤◌, cond, ltb, arith, lt_of_le_of_lt}
+use Rattle.std.proofs.Common.{◌≡◌, ℕ, ◌*◌, ◌^◌, ◌<◌, ◌≤◌, cond, ltb, arith, lt_of_le_of_lt}
 use native.Mathlib.Nat.{mul-le-mul_right}
 use mir.Facts.{Fits-of_lt}
 use lib.Dec.{lit<}
@@ -26,18 +26,17 @@ pub overflow_mul-x : goal.overflow_mul-x
 overflow_mul-x c = Fits-of_lt (let h = near (between c.requires c.signed.ensures c.units-x.ensures) in omega arith)
 
 pub moved-t-requires : goal.moved-t-requires
-moved-t-requires c = (near (between c.requires c.signed.ensures c.units-x.ensures), lit< tt)
+moved-t-requires c = (let h = near (between c.requires c.signed.ensures c.units-x.ensures) in omega arith, lit< tt)
 
 pub returns : goal.returns
 returns c =
     let p = c.args.p in
     let x = c.units-x.result in
     let t = c.moved-t.result in
-    let few : t / 2 ^ 28 / 2 ^ 25 < 64 = omega (arith, c.moved-t.ensures.upper_bound) in
     kernel_sided ordered kernel (2 ^ 37) 69 c.round_sided.result (between c.requires c.signed.ensures c.units-x.ensures)
     (kernel_moved (with_sign (ltb 0x7fff p) x) t (rw (times_signed (ltb 0x7fff p) x 48408813) c.moved-t.ensures.base_value))
     c.exp_poly-f.ensures.value
-    few
+    (omega (arith, c.moved-t.ensures.upper_bound))
     c.less.ensures
     c.less.type_inv
     c.round_sided.ensures

@@ -1,5 +1,5 @@
 -- What it rounds is row 2's number.
-use Rattle.std.proofs.Common.{◌≡◌, ℕ, ◌/◌, ◌^◌, ◌<◌, ◌≤◌, cond, ltb, arith, lt_of_le_of_lt}
+use Rattle.std.proofs.Common.{◌≡◌, ℕ, ◌^◌, ◌<◌, ◌≤◌, cond, ltb, arith, lt_of_le_of_lt}
 use lib.Dec.{lit<}
 use Rattle.posit.specs.Number.{magnitude, run, opposite, with_sign}
 use Rattle.exponential.specs.Exp2.{kernel}
@@ -27,11 +27,10 @@ returns c =
     let p = c.args.p in
     let x = c.units-x.result in
     let t = c.moved-t.result in
-    let few : t / 2 ^ 28 < 64 = omega (arith, c.moved-t.ensures.upper_bound) in
     kernel_sided ordered kernel (2 ^ 26) 58 c.round_sided.result (between c.requires c.signed.ensures c.units-x.ensures)
     (kernel_moved (with_sign (ltb 0x7fff p) x) t c.moved-t.ensures.base_value)
     c.exp2_poly-f.ensures.value
-    few
+    (omega (arith, c.moved-t.ensures.upper_bound))
     c.less.ensures
     c.less.type_inv
     c.round_sided.ensures
