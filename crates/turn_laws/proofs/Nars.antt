@@ -6,7 +6,7 @@ use mathlib.Core.Bool.{true, ◌||◌}
 use native.Mathlib.Omega.{arith}
 use borrow.Author.Tests.{ne_eqb}
 use lib.Dec.{lit≤}
-use Rattle.posit.specs.Number.{real, number, size, opposite}
+use Rattle.posit.specs.Number.{number, size, opposite}
 use Rattle.posit.proofs.Complement.{opposite_twice, opposite_some}
 use Rattle.posit.proofs.Exists.{answered}
 use Rattle.posit.proofs.Laws.{never_nar}

@@ -16,6 +16,7 @@ struct Wave {
     cosine: u16,
 }
 
+#[tactic(auto, using(crate::proofs::Steps::sine_is, crate::proofs::Steps::cosine_is))]
 fn wave_of(angle: u16) -> Wave
     ensures { (result.sine ≡ sine angle) × (result.minus ≡ opposite 16 (sine angle)) × (result.cosine ≡ cosine angle) }
 {

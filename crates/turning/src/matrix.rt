@@ -4,6 +4,7 @@ ghost use Rattle.std.specs.Prelude.{◌≡◌};
 ghost use Rattle.turning.specs.Turn.{entry, entries, matrix_times_of, arm_times_of};
 
 // (a0 * b0 + a1 * b1) + a2 * b2
+#[tactic(auto, using(crate::proofs::Steps::sum_is, crate::proofs::Steps::product_is), unfolding(crate::specs::Turn::entry))]
 fn entry_of(a: [u16; 3], b: [u16; 3]) -> u16
     ensures { result ≡ entry a b }
 {
@@ -20,6 +21,7 @@ fn row_times(a: [u16; 3], first: [u16; 3], second: [u16; 3], third: [u16; 3]) ->
     [entry_of(a, first), entry_of(a, second), entry_of(a, third)]
 }
 
+#[tactic(auto, unfolding(crate::specs::Turn::matrix_times_of))]
 pub fn matrix_times(m: [[u16; 3]; 3], n: [[u16; 3]; 3]) -> [[u16; 3]; 3]
     ensures { result ≡ matrix_times_of m n }
 {
