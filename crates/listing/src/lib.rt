@@ -1,7 +1,7 @@
 // A listing of functions and patterns, and its answered form.
 #![tactic(auto)]
 
-mod rows;
+mod answer_rows;
 
 ghost use Rattle.std.specs.Prelude.{◌≡◌, length};
 ghost use Rattle.sections.specs.Order.{counted};
@@ -52,7 +52,7 @@ pub fn answer_listing(input: &[u8], output: &mut [u8]) -> Listed
     let functions = found.functions;
     let patterns = found.patterns;
     let written = 6 + 2 * functions + 2 * patterns + 2 * (functions * patterns);
-    rows::write_answered(input, functions, patterns, output);
+    answer_rows::write_answered(input, functions, patterns, output);
     Listed {
         written,
         refusal: Refusal::None,
