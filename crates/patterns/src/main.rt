@@ -9,6 +9,9 @@ ghost use Rattle.io.specs.Counts.{IsPrefixLen};
 ghost use Rattle.blocks.specs.Words.{word_at};
 ghost use Rattle.patterns.specs.Patterns.{patterns_of};
 
+use std::io::Input;
+use std::process::ExitCode;
+
 fn wide(byte: u8) -> u64
     ensures { (result ≡ byte) × (result < 256) }
 {
@@ -44,20 +47,37 @@ fn convert(bytes: &[u8], output: &mut [u8]) -> usize
     2 * count
 }
 
+// What there is to do after a block.
+enum Next {
+    More,
+    End,
+    Failed,
+}
+
 // Converts the next block, and answers whether there may be more. A block is of whole f64s unless it is the last.
-fn convert_block() -> bool {
+fn convert_block(rt: &(impl Input + Print + Eprint)) -> Next {
     let mut input = blocks::input_block();
-    let block = blocks::read_block(&mut input);
+    let block = blocks::read_block(rt, &mut input);
     let n = block.count;
     let mut output = blocks::input_block();
     let written = convert(&input[..n], &mut output);
-    blocks::write_block(&output[..written]) && block.full
+    if !blocks::write_block(rt, &output[..written]) || block.failed {
+        return Next::Failed;
+    }
+    if block.full { Next::More } else { Next::End }
 }
 
-// A proved loop has to end, and nothing says that the input does: it counts down from a number that no run uses up.
-fn main() {
-    let mut turns = if blocks::without_words() { u64::MAX } else { 0 };
-    while turns > 0 && convert_block() {
-        turns -= 1;
+// A proved loop has to end, and nothing says that the input does: no run uses up its turns.
+fn main(rt: HostRuntime) -> ExitCode {
+    if !blocks::without_words(&rt) {
+        return ExitCode::FAILURE;
     }
+    for _ in 0..u64::MAX {
+        match convert_block(&rt) {
+            Next::More => {}
+            Next::End => break,
+            Next::Failed => return ExitCode::FAILURE,
+        }
+    }
+    ExitCode::SUCCESS
 }

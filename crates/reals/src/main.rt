@@ -10,6 +10,8 @@ ghost use Rattle.blocks.specs.Words.{little_endian};
 ghost use Rattle.reals.specs.Reals.{reals_of};
 
 use real::RealAnswer;
+use std::io::Input;
+use std::process::ExitCode;
 
 fn put_word(output: &mut [u8], at: usize, word: u64)
     requires { at + 8 ≤ length output.old }
@@ -52,20 +54,37 @@ fn output_block() -> [u8; 524288]
     [0; 524288]
 }
 
+// What there is to do after a block.
+enum Next {
+    More,
+    End,
+    Failed,
+}
+
 // Converts the next block, and answers whether there may be more. A block is of whole patterns unless it is the last.
-fn convert_block() -> bool {
+fn convert_block(rt: &(impl Input + Print + Eprint)) -> Next {
     let mut input = blocks::input_block();
-    let block = blocks::read_block(&mut input);
+    let block = blocks::read_block(rt, &mut input);
     let n = block.count;
     let mut output = output_block();
     let written = convert(&input[..n], &mut output);
-    blocks::write_block(&output[..written]) && block.full
+    if !blocks::write_block(rt, &output[..written]) || block.failed {
+        return Next::Failed;
+    }
+    if block.full { Next::More } else { Next::End }
 }
 
-// A proved loop has to end, and nothing says that the input does: it counts down from a number that no run uses up.
-fn main() {
-    let mut turns = if blocks::without_words() { u64::MAX } else { 0 };
-    while turns > 0 && convert_block() {
-        turns -= 1;
+// A proved loop has to end, and nothing says that the input does: no run uses up its turns.
+fn main(rt: HostRuntime) -> ExitCode {
+    if !blocks::without_words(&rt) {
+        return ExitCode::FAILURE;
     }
+    for _ in 0..u64::MAX {
+        match convert_block(&rt) {
+            Next::More => {}
+            Next::End => break,
+            Next::Failed => return ExitCode::FAILURE,
+        }
+    }
+    ExitCode::SUCCESS
 }
