@@ -2,7 +2,6 @@
 use Rattle.std.proofs.Common.{inl, inr, arith, rules}
 use Rattle.arc.proofs.Rows.AcosPi.{past_one, near_zero, by_arc}
 use Rattle.arc.proofs.math.acos_pi.acos_pi_sided.Goals as goal
-use Rattle.arc.proofs.math.acos_pi.acos_pi_sided.Goals.{then-p-gt16384+else-p-lt49152, else-p-gt16384}
 
 pub returns-then-p-lt49152 : goal.returns-then-p-lt49152
 returns-then-p-lt49152 c = rw (past_one c.args.p (omega arith) (omega arith)) (search rules)
@@ -15,6 +14,4 @@ returns-then-p-gt65307 c = rw (near_zero c.args.p (inr c.if-p-gt65307.true)) (se
 
 pub returns : goal.returns
 returns c =
-    by_arc c.args.p c.round_sided.result (omega arith) (omega arith)
-    (λ h. elim c.if-p-gt16384.branch [ then-p-gt16384+else-p-lt49152 w ↦ omega arith | else-p-gt16384 w ↦ omega arith ])
-    (rw c.angle.ensures at c.round_sided.ensures)
+    by_arc c.args.p c.round_sided.result (omega arith) (omega arith) (search rules) (rw c.angle.ensures at c.round_sided.ensures)

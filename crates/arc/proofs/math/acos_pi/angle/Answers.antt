@@ -1,6 +1,7 @@
 -- Within 1/2 of zero the polynomial takes |x|, beyond that a root that is as small, and how its result is turned goes by that
 -- and by the sign.
-use Rattle.std.proofs.Common.{◌≡◌, ℕ, ◌-◌, ◌*◌, ◌%◌, ◌^◌, ◌≤◌, ◌<◌, Bool, true, false, ltb, lt-ltb, le-ltb, sym, ap, ◌∙◌, arith, lit≤}
+use Rattle.std.proofs.Common.{◌≡◌, ℕ, ◌-◌, ◌*◌, ◌%◌, ◌^◌, ◌≤◌, ◌<◌, Bool, true, false, ltb, sym, ap, ◌∙◌, arith, lit≤}
+use Rattle.std.proofs.lemmas.Bool.{lt-ltb, le-ltb}
 use mathlib.Core.Bool.{beq}
 use Rattle.posit.specs.Number.{magnitude, size}
 use Rattle.arc.specs.Root.{Root}
@@ -28,15 +29,15 @@ module _ (p s x : ℕ) (inside : (165 ≤ p) × (p ≤ 65307) × (0x4000 < p →
   near : s ≤ 0x2fff → m ≤ 2 ^ 27
   near l = to_half (size 16 p) to-one-at-most.0 (omega arith)
 
-  far : 0x2fff < s → (2 ^ 27 ≤ m) × (m ≤ 2 ^ 28)
-  far l = let o = to-one-at-most in (from_half (size 16 p) (omega arith) (omega arith), to_one (size 16 p) o.0 o.1)
+  far : 0x2fff < s → 2 ^ 27 ≤ m
+  far l = let o = to-one-at-most in from_half (size 16 p) (omega arith) (omega arith)
 
-  rest_fits : 0x2fff < s → x ≤ 2 ^ 28
-  rest_fits l = rw size_is (far l).1
+  rest_fits : x ≤ 2 ^ 28
+  rest_fits = let o = to-one-at-most in rw size_is (to_one (size 16 p) o.0 o.1)
 
   -- what the polynomial takes
   rooted : (f r : ℕ) → 0x2fff < s → f ≡ r → Root ((2 ^ 28 - x) * 2 ^ 27 % 2 ^ 64) r → (f ≡ argument by-root m) × (f ≤ 2 ^ 27)
-  rooted f r l e a = let k = root_of_rest size_is (far l).0 a in rw (lt-ltb 0x2fff s l) (e ∙ k.0, rw e k.1)
+  rooted f r l e a = let k = root_of_rest size_is (far l) a in rw (lt-ltb 0x2fff s l) (e ∙ k.0, rw e k.1)
 
   plain : (f : ℕ) → s ≤ 0x2fff → f ≡ x → (f ≡ argument by-root m) × (f ≤ 2 ^ 27)
   plain f l e = rw (le-ltb 0x2fff s l) (e ∙ size_is, rw (e, size_is) (near l))
@@ -50,7 +51,7 @@ module _ (p s x : ℕ) (inside : (165 ≤ p) × (p ≤ 65307) × (0x4000 < p →
       ∙ sym (arc_by_root p m s s-is (rw s-is to-one-at-most.1))
 
 pub overflow_sub-x : goal.overflow_sub-x
-overflow_sub-x c = rest_fits c.args.p c.signed-size.result c.units-x.result c.requires c.signed-size.ensures c.units-x.ensures c.if-by_root.true
+overflow_sub-x c = rest_fits c.args.p c.signed-size.result c.units-x.result c.requires c.signed-size.ensures c.units-x.ensures
 
 pub acos_poly-k-requires : goal.acos_poly-k-requires
 acos_poly-k-requires c =
