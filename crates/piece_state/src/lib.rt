@@ -11,7 +11,7 @@ const LONGEST: usize = 2072;
 const LONGEST_ANSWERED: usize = 22554;
 
 // What is kept between two calls: the bytes so far, zeros after them, how many they are, and the refusal.
-#[derive(Drop)]
+#[derive(Clone, Copy)]
 pub struct Pieces {
     pub bytes: [u8; 2072],
     pub count: u16,
@@ -19,6 +19,7 @@ pub struct Pieces {
 }
 
 // The state that keeps no bytes.
+#[tactic(auto, unfolding(crate::specs::State::keeping))]
 pub fn empty(refusal: Refusal) -> Pieces
     ensures { result ≡ keeping [] refusal }
 {
