@@ -12,7 +12,8 @@ use Rattle.rows.specs.Rows.{Row, names, rounds, Meets}
 use Rattle.exponential.specs.Exp2.{poly}
 use Rattle.exp2_sweep.specs.Power.{power_cut, Picked}
 use Rattle.exp2_sweep.proofs.Stands.{stands, exponent, power-stands}
-use Rattle.exp2_sweep.proofs.Picks.{Test, Tells, picks, picks_rounded}
+use Rattle.exp2_sweep.proofs.Tests.{Test, Tells, picks}
+use Rattle.exp2_sweep.proofs.Picks.{picks_rounded}
 
 -- exp2's answer is known, and the rounding rule picks it for 2 ^ x
 pub record Agreed (x : Number) (y : Row) : Type 0 where

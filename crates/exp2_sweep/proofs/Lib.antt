@@ -1,6 +1,7 @@
 pub mod Bounds
 pub mod Stands
 pub mod OnePicked
+pub mod Tests
 pub mod Picks
 pub mod Agreed
 pub mod Sweep
