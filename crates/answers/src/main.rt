@@ -4,17 +4,23 @@
 // the listing was.
 #![tactic(auto)]
 
-fn main() {
-    if !blocks::without_words() {
-        return;
+use std::process::ExitCode;
+
+fn main(rt: HostRuntime) -> ExitCode {
+    if !blocks::without_words(&rt) {
+        return ExitCode::FAILURE;
     }
     let mut input = [0u8; 2073];
-    let block = blocks::read_block(&mut input);
+    let block = blocks::read_block(&rt, &mut input);
     if block.failed {
-        return;
+        return ExitCode::FAILURE;
     }
     let n = block.count;
     let mut output = [0u8; 22554];
     let written = reply::reply_to(&input[..n], &mut output);
-    blocks::write_block(&output[..written]);
+    if blocks::write_block(&rt, &output[..written]) {
+        ExitCode::SUCCESS
+    } else {
+        ExitCode::FAILURE
+    }
 }

@@ -1,7 +1,7 @@
 // The calls that are made, by number: each length with each output, function, start and limit.
 pub const COUNT: usize = 7 * 3 * 6 * 9 * 7;
 
-#[derive(Drop)]
+#[derive(Clone, Copy)]
 pub struct Case {
     pub length: usize,
     pub room: usize,
@@ -100,7 +100,7 @@ fn limit(i: usize) -> usize {
 }
 
 fn moved(from: usize, up: usize, down: usize) -> Place {
-    let to = std::num::wrapping_add_usize(from, up);
+    let to = from.wrapping_add(up);
     if to < down {
         return Place::Nowhere;
     }

@@ -3,23 +3,23 @@
 
 ghost use Rattle.std.specs.Prelude.{◌≡◌, length};
 
-use libc::STDOUT_FILENO;
+use std::io;
 
 mod cases;
 mod plain;
 
-fn main() {
+fn main(rt: HostRuntime) -> io::Result<()> {
     let input = patterns();
     let mut calls: u64 = 0;
     let mut differ: u64 = 0;
     let mut k: usize = 0;
     while k < cases::COUNT {
         let one = try_case(k, &input);
-        calls = std::num::wrapping_add_u64(calls, one.calls);
-        differ = std::num::wrapping_add_u64(differ, one.differ);
+        calls = calls.wrapping_add(one.calls);
+        differ = differ.wrapping_add(one.differ);
         k += 1;
     }
-    print(calls, differ);
+    print(&rt, calls, differ)
 }
 
 #[derive(Drop)]
@@ -28,11 +28,8 @@ struct Tally {
     differ: u64,
 }
 
-fn print(calls: u64, differ: u64) {
-    io::print_decimal(STDOUT_FILENO, calls);
-    io::write_all(STDOUT_FILENO, b" calls, ");
-    io::print_decimal(STDOUT_FILENO, differ);
-    io::write_all(STDOUT_FILENO, b" differ\n");
+fn print(rt: &impl Print, calls: u64, differ: u64) -> io::Result<()> {
+    println!(rt; "{calls} calls, {differ} differ")
 }
 
 fn patterns() -> [u16; 4096]

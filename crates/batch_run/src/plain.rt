@@ -60,7 +60,7 @@ fn answered(c: Case, input: &[u16], want: &mut [u16; 4099]) -> Plain
         let r = answer(c.function, input[at]);
         want[at] = r;
         if r == 0x8000 {
-            nars = std::num::wrapping_add_usize(nars, 1);
+            nars = nars.wrapping_add(1);
         }
         left -= 1;
         at += 1;

@@ -8,48 +8,58 @@
 
 ghost use Rattle.std.specs.Prelude.{◌≡◌, length};
 
-fn main() {
-    let words = os::arg_count();
-    if words == 3 {
-        return compare_files(false);
+use std::env::{Env, FillError};
+use std::fs::Files;
+use std::process::ExitCode;
+
+fn main(rt: HostRuntime) -> ExitCode {
+    if has_word(&rt, 2) && !has_word(&rt, 3) {
+        return compare_files(&rt, false);
     }
-    if words == 4 {
-        if is_short() {
-            return compare_files(true);
-        }
+    if has_word(&rt, 3) && !has_word(&rt, 4) && is_short(&rt) {
+        return compare_files(&rt, true);
     }
-    io::write_all(
-        libc::STDERR_FILENO,
-        b"failed: usage: compare FIRST SECOND [short], the names of two files with answered listings\n",
+    let _ = eprintln!(rt;
+        "failed: usage: compare FIRST SECOND [short], the names of two files with answered listings"
     );
+    ExitCode::FAILURE
+}
+
+// Whether the program was started with a word of that number.
+fn has_word(rt: &impl Env, word: usize) -> bool {
+    let mut first = [0u8; 1];
+    !matches!(rt.arg(word, &mut first), Err(FillError::NotPresent))
 }
 
 // Whether the third word is the one that the program takes.
-fn is_short() -> bool {
+fn is_short(rt: &impl Env) -> bool {
     let mut word = [0u8; 5];
-    os::arg(3, &mut word);
-    if os::errno() != 0 {
+    if rt.arg(3, &mut word).is_err() {
         return false;
     }
     word[0] == 115 && word[1] == 104 && word[2] == 111 && word[3] == 114 && word[4] == 116
 }
 
-fn compare_files(short: bool) {
+fn compare_files(rt: &(impl Env + Files + Print + Eprint), short: bool) -> ExitCode {
     let mut first = [0u8; 22555];
-    let one = blocks::read_file(1, &mut first);
+    let one = blocks::read_file(rt, 1, &mut first);
     if one.failed {
-        return;
+        return ExitCode::FAILURE;
     }
     let n = one.count;
     let mut second = [0u8; 22555];
-    let two = blocks::read_file(2, &mut second);
+    let two = blocks::read_file(rt, 2, &mut second);
     if two.failed {
-        return;
+        return ExitCode::FAILURE;
     }
     let m = two.count;
     let mut output = lines();
     let written = comparison::compare(&first[..n], &second[..m], short, &mut output);
-    blocks::write_block(&output[..written]);
+    if blocks::write_block(rt, &output[..written]) {
+        ExitCode::SUCCESS
+    } else {
+        ExitCode::FAILURE
+    }
 }
 
 // Room for as many lines as two listings can have: 31 bytes for each of 10,240.

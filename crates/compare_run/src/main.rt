@@ -4,14 +4,16 @@
 // of the pair. `tools/compare-check --write` made stdin, and from it stdout, by a model that shares nothing with the program.
 #![tactic(auto)]
 
-fn main() {
+use std::io;
+
+fn main(rt: HostRuntime) -> io::Result<()> {
     let mut input = blocks::input_block();
-    let block = blocks::read_block(&mut input);
+    let block = blocks::read_block(&rt, &mut input);
     let n = block.count;
-    try_all(&input[..n]);
+    try_all(&rt, &input[..n])
 }
 
-fn try_all(cases: &[u8]) {
+fn try_all(rt: &(impl Print + Eprint), cases: &[u8]) -> io::Result<()> {
     let mut at: usize = 0;
     while cases.len() - at >= 7 {
         let short = cases[at] == 1;
@@ -20,26 +22,32 @@ fn try_all(cases: &[u8]) {
         let second = words::number_at(cases, at + 5) as usize;
         let start = at + 7;
         if cases.len() - start < first + second {
-            return;
+            return Ok(());
         }
         let middle = start + first;
         let end = middle + second;
-        if !try_one(&cases[start..middle], &cases[middle..end], from, short) {
-            return;
+        if !try_one(rt, &cases[start..middle], &cases[middle..end], from, short)? {
+            return Ok(());
         }
         at = end;
     }
+    Ok(())
 }
 
 // Tries one pair, and answers whether what was found could be written.
-fn try_one(first: &[u8], second: &[u8], from: u16, short: bool) -> bool {
+fn try_one(
+    rt: &(impl Print + Eprint),
+    first: &[u8],
+    second: &[u8],
+    from: u16,
+    short: bool,
+) -> io::Result<bool> {
     let found = comparison::difference(first, second, from as usize);
     let refusal = found.refusal;
-    io::print_decimal(libc::STDOUT_FILENO, refusals::number(refusal) as u64);
-    io::write_all(libc::STDOUT_FILENO, b" ");
-    io::print_decimal(libc::STDOUT_FILENO, found.place as u64);
-    io::write_all(libc::STDOUT_FILENO, b"\n");
-    let mut output = io::large_buffer();
+    let number = refusals::number(refusal);
+    let place = found.place;
+    println!(rt; "{number} {place}")?;
+    let mut output = [0u8; 65536];
     let n = comparison::compare(first, second, short, &mut output);
-    blocks::write_block(&output[..n])
+    Ok(blocks::write_block(rt, &output[..n]))
 }

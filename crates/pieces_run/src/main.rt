@@ -7,15 +7,16 @@
 #![tactic(auto)]
 
 use piece_state::Pieces;
+use std::io;
 
-fn main() {
+fn main(rt: HostRuntime) -> io::Result<()> {
     let mut input = blocks::input_block();
-    let block = blocks::read_block(&mut input);
+    let block = blocks::read_block(&rt, &mut input);
     let n = block.count;
-    try_all(&input[..n]);
+    try_all(&rt, &input[..n])
 }
 
-fn try_all(steps: &[u8]) {
+fn try_all(rt: &(impl Print + Eprint), steps: &[u8]) -> io::Result<()> {
     let mut state = pieces::fresh();
     let mut at: usize = 0;
     while steps.len() - at >= 3 {
@@ -23,43 +24,44 @@ fn try_all(steps: &[u8]) {
         let length = words::number_at(steps, at + 1) as usize;
         let start = at + 3;
         if steps.len() - start < length {
-            return;
+            return Ok(());
         }
         let end = start + length;
-        state = step(state, kind, &steps[start..end]);
+        state = step(rt, state, kind, &steps[start..end])?;
         at = end;
     }
+    Ok(())
 }
 
-fn step(state: Pieces, kind: u8, bytes: &[u8]) -> Pieces {
+fn step(rt: &(impl Print + Eprint), state: Pieces, kind: u8, bytes: &[u8]) -> io::Result<Pieces> {
     match kind {
-        0 => pieces::fresh(),
-        1 => take_piece(state, bytes),
-        2 => end_with(state, words::number_at(bytes, 0)),
-        _ => changed(state, bytes),
+        0 => Ok(pieces::fresh()),
+        1 => take_piece(rt, state, bytes),
+        2 => end_with(rt, state, words::number_at(bytes, 0)),
+        _ => Ok(changed(state, bytes)),
     }
 }
 
-fn take_piece(state: Pieces, bytes: &[u8]) -> Pieces {
+fn take_piece(rt: &impl Print, state: Pieces, bytes: &[u8]) -> io::Result<Pieces> {
     let done = pieces::piece(state, bytes);
     let refusal = done.refusal;
     let next = done.state;
-    print_two(refusals::number(refusal), next.count as u64);
-    next
+    print_two(rt, refusals::number(refusal), next.count as u64)?;
+    Ok(next)
 }
 
-fn end_with(state: Pieces, room: u16) -> Pieces {
-    let mut output = io::large_buffer();
-    let n = io::count(room as isize, &output);
-    end_into(state, &mut output[..n])
+fn end_with(rt: &(impl Print + Eprint), state: Pieces, room: u16) -> io::Result<Pieces> {
+    let mut output = [0u8; 65536];
+    let n = room as usize;
+    end_into(rt, state, &mut output[..n])
 }
 
-fn end_into(state: Pieces, output: &mut [u8]) -> Pieces {
+fn end_into(rt: &(impl Print + Eprint), state: Pieces, output: &mut [u8]) -> io::Result<Pieces> {
     let done = pieces::end(state, output);
     let refusal = done.refusal;
-    print_two(refusals::number(refusal), done.written as u64);
-    blocks::write_block(output);
-    done.state
+    print_two(rt, refusals::number(refusal), done.written as u64)?;
+    blocks::write_block(rt, output);
+    Ok(done.state)
 }
 
 fn changed(state: Pieces, numbers: &[u8]) -> Pieces {
@@ -75,9 +77,6 @@ fn changed(state: Pieces, numbers: &[u8]) -> Pieces {
     }
 }
 
-fn print_two(first: u16, second: u64) {
-    io::print_decimal(libc::STDOUT_FILENO, first as u64);
-    io::write_all(libc::STDOUT_FILENO, b" ");
-    io::print_decimal(libc::STDOUT_FILENO, second);
-    io::write_all(libc::STDOUT_FILENO, b"\n");
+fn print_two(rt: &impl Print, first: u16, second: u64) -> io::Result<()> {
+    println!(rt; "{first} {second}")
 }

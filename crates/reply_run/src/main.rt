@@ -4,14 +4,14 @@
 // that shares nothing with the program.
 #![tactic(auto)]
 
-fn main() {
+fn main(rt: HostRuntime) {
     let mut input = blocks::input_block();
-    let block = blocks::read_block(&mut input);
+    let block = blocks::read_block(&rt, &mut input);
     let n = block.count;
-    try_all(&input[..n]);
+    try_all(&rt, &input[..n]);
 }
 
-fn try_all(cases: &[u8]) {
+fn try_all(rt: &(impl Print + Eprint), cases: &[u8]) {
     let mut at: usize = 0;
     while cases.len() - at >= 4 {
         let room = words::number_at(cases, at);
@@ -21,7 +21,7 @@ fn try_all(cases: &[u8]) {
             return;
         }
         let end = start + length;
-        if !try_one(&cases[start..end], room) {
+        if !try_one(rt, &cases[start..end], room) {
             return;
         }
         at = end;
@@ -29,14 +29,14 @@ fn try_all(cases: &[u8]) {
 }
 
 // Replies to one listing, in an output of `room` bytes, and answers whether the reply was written.
-fn try_one(listing: &[u8], room: u16) -> bool {
-    let mut output = io::large_buffer();
-    let n = io::count(room as isize, &output);
-    write_reply(listing, &mut output[..n])
+fn try_one(rt: &(impl Print + Eprint), listing: &[u8], room: u16) -> bool {
+    let mut output = [0u8; 65536];
+    let n = room as usize;
+    write_reply(rt, listing, &mut output[..n])
 }
 
-fn write_reply(listing: &[u8], output: &mut [u8]) -> bool {
+fn write_reply(rt: &(impl Print + Eprint), listing: &[u8], output: &mut [u8]) -> bool {
     let n = reply::reply_to(listing, output);
     let count = [(n % 256) as u8, (n / 256 % 256) as u8];
-    blocks::write_block(&count) && blocks::write_block(&output[..n])
+    blocks::write_block(rt, &count) && blocks::write_block(rt, &output[..n])
 }

@@ -5,7 +5,8 @@
 // answers that differ and for each of the points that document 01 names.
 #![tactic(auto)]
 
-use libc::{STDIN_FILENO, STDOUT_FILENO};
+use std::io;
+use std::io::Input;
 
 mod points;
 mod print;
@@ -17,39 +18,57 @@ struct Tally {
     differ: u64,
 }
 
-fn main() {
+fn main(rt: HostRuntime) -> io::Result<()> {
     let mut function: u16 = 1;
     while function <= 10 {
-        table(function);
+        table(&rt, function)?;
         function += 1;
     }
-    roots();
+    roots(&rt)
 }
 
 // Compares one function's table and prints its line. An input that ends early leaves patterns out of the count.
-fn table(function: u16) {
+fn table(rt: &(impl Input + Print + Eprint), function: u16) -> io::Result<()> {
     let low = half(
+        rt,
         function,
         0,
         Tally {
             compared: 0,
             differ: 0,
         },
-    );
-    let high = half(function, 32768, low);
-    print::name(function);
-    print::line(b" patterns compared, ", high.compared, high.differ);
+    )?;
+    let high = half(rt, function, 32768, low)?;
+    print::line(
+        rt,
+        print::name(function),
+        "patterns",
+        high.compared,
+        high.differ,
+    )
 }
 
 // Reads the answers from the pattern `first` on and compares them.
-fn half(function: u16, first: u16, before: Tally) -> Tally {
-    let mut buffer = io::large_buffer();
-    let n = io::read_full(STDIN_FILENO, &mut buffer);
-    answers(function, first, &buffer[..n], before)
+fn half(
+    rt: &(impl Input + Print + Eprint),
+    function: u16,
+    first: u16,
+    before: Tally,
+) -> io::Result<Tally> {
+    let mut buffer = [0u8; 65536];
+    let block = blocks::read_block(rt, &mut buffer);
+    let n = block.count;
+    answers(rt, function, first, &buffer[..n], before)
 }
 
 // Compares the answers in `want`, two bytes each, to the patterns from `first` on.
-fn answers(function: u16, first: u16, want: &[u8], before: Tally) -> Tally {
+fn answers(
+    rt: &impl Print,
+    function: u16,
+    first: u16,
+    want: &[u8],
+    before: Tally,
+) -> io::Result<Tally> {
     let mut compared = before.compared;
     let mut differ = before.differ;
     let mut i: usize = 0;
@@ -58,22 +77,22 @@ fn answers(function: u16, first: u16, want: &[u8], before: Tally) -> Tally {
         if want.len() < at + 2 {
             break;
         }
-        let p = std::num::wrapping_add_u16(first, i as u16);
+        let p = first.wrapping_add(i as u16);
         let rust = number(want[at], want[at + 1]);
         let here = answer(function, p);
         if here != rust {
             if differ < 5 {
-                print::both(b"differs: ", function, p, rust, here);
+                print::both(rt, "differs", function, p, rust, here)?;
             }
-            differ = std::num::wrapping_add_u64(differ, 1);
+            differ = differ.wrapping_add(1);
         }
         if points::named(function, p) {
-            print::both(b"point: ", function, p, rust, here);
+            print::both(rt, "point", function, p, rust, here)?;
         }
-        compared = std::num::wrapping_add_u64(compared, 1);
+        compared = compared.wrapping_add(1);
         i += 1;
     }
-    Tally { compared, differ }
+    Ok(Tally { compared, differ })
 }
 
 fn number(low: u8, high: u8) -> u16 {
@@ -89,15 +108,15 @@ fn answer(function: u16, p: u16) -> u16 {
 }
 
 // Compares the square roots of j * 2^42, for j from 0 to 4,096.
-fn roots() {
+fn roots(rt: &(impl Input + Print + Eprint)) -> io::Result<()> {
     let mut buffer = [0u8; 16388];
-    let n = io::read_full(STDIN_FILENO, &mut buffer);
-    let t = root_answers(&buffer[..n]);
-    io::write_all(STDOUT_FILENO, b"square root: ");
-    print::line(b" roots compared, ", t.compared, t.differ);
+    let block = blocks::read_block(rt, &mut buffer);
+    let n = block.count;
+    let t = root_answers(rt, &buffer[..n])?;
+    print::line(rt, "square root", "roots", t.compared, t.differ)
 }
 
-fn root_answers(want: &[u8]) -> Tally {
+fn root_answers(rt: &impl Print, want: &[u8]) -> io::Result<Tally> {
     let mut compared: u64 = 0;
     let mut differ: u64 = 0;
     let mut j: usize = 0;
@@ -112,12 +131,12 @@ fn root_answers(want: &[u8]) -> Tally {
         let here = arc::square_root((j as u64) << 42);
         if here != rust {
             if differ < 5 {
-                print::root(j as u64, rust, here);
+                print::root(rt, j as u64, rust, here)?;
             }
-            differ = std::num::wrapping_add_u64(differ, 1);
+            differ = differ.wrapping_add(1);
         }
-        compared = std::num::wrapping_add_u64(compared, 1);
+        compared = compared.wrapping_add(1);
         j += 1;
     }
-    Tally { compared, differ }
+    Ok(Tally { compared, differ })
 }
