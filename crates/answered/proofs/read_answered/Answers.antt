@@ -127,7 +127,7 @@ returns-then-bytes-whole c =
     let h = have c.args.bytes.now f.result c.number.result f.ensures c.number.ensures c.if-number-ne0.false in
     c.refused-then-bytes-whole.ensures
     ∙ no_answers c.args.bytes.now f.result h (omega (arith, h.past, h.within)) c.number_at.result c.number_at.ensures
-    c.if-number_at-count.false c.if-bytes-whole.true
+    (omega arith) (omega arith)
 
 pub returns-then-whole-bytes : goal.returns-then-whole-bytes
 returns-then-whole-bytes c =
@@ -135,11 +135,11 @@ returns-then-whole-bytes c =
     let h = have c.args.bytes.now f.result c.number.result f.ensures c.number.ensures c.if-number-ne0.false in
     c.refused-then-whole-bytes.ensures
     ∙ more c.args.bytes.now f.result h (omega (arith, h.past, h.within)) c.number_at.result c.number_at.ensures
-    c.if-number_at-count.false c.if-whole-bytes.true
+    (omega arith) (omega arith)
 
 pub returns : goal.returns
 returns c =
     let f = c.read_sections-found in
     let h = have c.args.bytes.now f.result c.number.result f.ensures c.number.ensures c.if-number-ne0.false in
     all c.args.bytes.now f.result h (omega (arith, h.past, h.within)) c.number_at.result c.number_at.ensures
-    c.if-number_at-count.false c.if-bytes-whole.false c.if-whole-bytes.false
+    (omega arith) (omega arith) (omega arith)

@@ -129,9 +129,8 @@ returns-then-not-same_numbers c =
     let t = c.read_answered-other in
     let x = have a.first.now s.result c.number.result s.ensures c.number.ensures c.if-number-ne0.false in
     let y = have a.second.now t.result c.number-2.result t.ensures c.number-2.ensures c.if-number-ne0-2.false in
-    c.refused-then-not-same_numbers.ensures
-    ∙ other_functions a.first.now a.second.now s.result t.result x y c.if-functions-other.false c.if-patterns-other.false
-    (sym c.if-not-same_numbers.ensures)
+    let others = other_functions a.first.now a.second.now s.result t.result x y c.if-functions-other.false c.if-patterns-other.false in
+    c.refused-then-not-same_numbers.ensures ∙ others (sym c.if-not-same_numbers.ensures)
 
 pub overflow_mul-functions : goal.overflow_mul-functions
 overflow_mul-functions c =
@@ -156,9 +155,8 @@ returns-then-not-same_numbers-2 c =
     let t = c.read_answered-other in
     let x = have a.first.now s.result c.number.result s.ensures c.number.ensures c.if-number-ne0.false in
     let y = have a.second.now t.result c.number-2.result t.ensures c.number-2.ensures c.if-number-ne0-2.false in
-    c.refused-then-not-same_numbers-2.ensures
-    ∙ other_patterns a.first.now a.second.now s.result t.result x y c.if-functions-other.false c.if-patterns-other.false
-    (sym c.if-not-same_numbers-2.ensures)
+    let others = other_patterns a.first.now a.second.now s.result t.result x y c.if-functions-other.false c.if-patterns-other.false in
+    c.refused-then-not-same_numbers-2.ensures ∙ others (sym c.if-not-same_numbers-2.ensures)
 
 pub returns : goal.returns
 returns c =

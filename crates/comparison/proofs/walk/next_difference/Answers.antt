@@ -1,5 +1,5 @@
 -- one place on where the answers are the same, here where they differ, and the end where there is none
-use Rattle.std.proofs.Common.{ℕ, ◌+◌, ◌*◌, ◌<◌, ◌≤◌, ◌≡◌, sym, ◌∙◌, List, length, get_or, arith}
+use Rattle.std.proofs.Common.{ℕ, ◌+◌, ◌*◌, ◌<◌, ◌≤◌, ◌≡◌, sym, ap, ◌∙◌, List, length, get_or, arith}
 use Rattle.words.specs.Numbers.{number_at_of}
 use Rattle.words.proofs.Reading.{length-numbers_at, number_of}
 use Rattle.comparison.specs.Differences.{next_differing}
@@ -60,7 +60,8 @@ loop-column-preserved c =
       place_is = omega arith;
       column_within = omega arith;
       same_next = sym (further a.first.now a.second.now a.functions a.patterns c.rows.row l.column l.place c.rows-test.true c.loop-column-test.true
-          l.invariant.place_is c.number_at.result c.number_at-in-loop-column.result c.number_at.ensures c.number_at-in-loop-column.ensures
+          l.invariant.place_is c.number_at.result c.number_at-in-loop-column.result (c.number_at.ensures ∙ ap (number_at_of a.first.now) (omega arith))
+          (c.number_at-in-loop-column.ensures ∙ ap (number_at_of a.second.now) (omega arith))
           c.if-number_at.false) ∙ l.invariant.same_next;
     }
 
@@ -76,6 +77,7 @@ returns-then-number_at c =
     let a = c.args in
     let l = c.loop-column in
     sym (found a.first.now a.second.now a.functions a.patterns c.rows.row l.column l.place c.rows-test.true c.loop-column-test.true
-    l.invariant.place_is c.number_at.result c.number_at-in-loop-column.result c.number_at.ensures c.number_at-in-loop-column.ensures
+    l.invariant.place_is c.number_at.result c.number_at-in-loop-column.result (c.number_at.ensures ∙ ap (number_at_of a.first.now) (omega arith))
+    (c.number_at-in-loop-column.ensures ∙ ap (number_at_of a.second.now) (omega arith))
     c.if-number_at.true)
     ∙ l.invariant.same_next

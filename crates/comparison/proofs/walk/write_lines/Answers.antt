@@ -75,10 +75,7 @@ module _ (b c : List ℕ) (functions patterns : ℕ) where
     end = omega (arith, within xs ys (one ∙ sym two) place so_far, one, count)
 
     -- a place is left
-    module _ (other : next ≡ functions * patterns → ⊥) where
-      below : next < functions * patterns
-      below = omega (arith, end)
-
+    module _ (below : next < functions * patterns) where
       apart : get_or xs next 0 ≡ get_or ys next 0 → ⊥
       apart q =
           differs xs ys (one ∙ sym two) place so_far (omega (arith, below, one, count))
@@ -100,21 +97,16 @@ module _ (b c : List ℕ) (functions patterns : ℕ) where
           ∙ first_alone qs xs ys one two place next (sym e) from (omega (arith, below, count)) apart (first t)
           ∙ ap (λ (l : List ℕ). lines place ++ l) line_is
 
-pub returns-then-next-count-clause-value : goal.returns-then-next-count-clause-value
-returns-then-next-count-clause-value c =
+pub returns-then-next-count : goal.returns-then-next-count
+returns-then-next-count c =
     let a = c.args in
     let l = c.loop-place in
-    l.invariant.at_is
-    ∙ ap length (sym (finished a.first.now a.second.now a.functions a.patterns l.place a.short l.invariant.short_at_first l.invariant.place_within
-    (sym c.next_difference-next.ensures ∙ c.if-next-count.true)))
-
-pub returns-then-next-count-clause-output_after : goal.returns-then-next-count-clause-output_after
-returns-then-next-count-clause-output_after c =
-    let a = c.args in
-    let l = c.loop-place in
-    l.invariant.written
-    ∙ ap (sets a.output.now 0) (sym (finished a.first.now a.second.now a.functions a.patterns l.place a.short l.invariant.short_at_first
-    l.invariant.place_within (sym c.next_difference-next.ensures ∙ c.if-next-count.true)))
+    let n = c.next_difference-next in
+    let last : n.result ≡ a.functions * a.patterns =
+    omega (arith, end a.first.now a.second.now a.functions a.patterns l.place n.result l.invariant.place_within n.ensures) in
+    let e = sym (finished a.first.now a.second.now a.functions a.patterns l.place a.short l.invariant.short_at_first l.invariant.place_within
+    (sym n.ensures ∙ last)) in
+    record { value = l.invariant.at_is ∙ ap length e; output_after = l.invariant.written ∙ ap (sets a.output.now 0) e }
 
 pub write_line-at-requires : goal.write_line-at-requires
 write_line-at-requires c =
@@ -122,7 +114,8 @@ write_line-at-requires c =
     let l = c.loop-place in
     let n = c.next_difference-next in
     let k = from a.first.now a.second.now a.functions a.patterns l.place n.result l.invariant.place_within n.ensures in
-    let h = below a.first.now a.second.now a.functions a.patterns l.place n.result l.invariant.place_within n.ensures c.if-next-count.false in
+    let h : n.result < a.functions * a.patterns =
+    omega (arith, end a.first.now a.second.now a.functions a.patterns l.place n.result l.invariant.place_within n.ensures) in
     let room = line_fits a.short l.place n.result (a.functions * a.patterns) l.at (length a.output.now) l.invariant.at_most k h c.requires.2
     l.invariant.short_at_first in
     (c.requires.0, c.requires.1, h, omega (arith, room, l.auto.output))
@@ -133,27 +126,18 @@ overflow_add-at c =
     let n = c.next_difference-next in
     omega (arith, mul-le-mul c.requires.0 c.requires.1, line_length a.first.now a.second.now a.functions a.patterns n.result)
 
-pub returns-then-short-clause-value : goal.returns-then-short-clause-value
-returns-then-short-clause-value c =
+pub returns-then-short : goal.returns-then-short
+returns-then-short c =
     let a = c.args in
     let l = c.loop-place in
     let n = c.next_difference-next in
     let w = c.write_line-at in
-    let e = only a.first.now a.second.now a.functions a.patterns l.place n.result l.invariant.place_within n.ensures c.if-next-count.false a.short
-    l.invariant.short_at_first c.if-short.true in
-    (more a.output.now _ _ l.at w.result l.output w.new.output l.invariant.at_is l.invariant.written w.ensures.value w.ensures.output_after).0
-    ∙ ap length (sym e)
-
-pub returns-then-short-clause-output_after : goal.returns-then-short-clause-output_after
-returns-then-short-clause-output_after c =
-    let a = c.args in
-    let l = c.loop-place in
-    let n = c.next_difference-next in
-    let w = c.write_line-at in
-    let e = only a.first.now a.second.now a.functions a.patterns l.place n.result l.invariant.place_within n.ensures c.if-next-count.false a.short
-    l.invariant.short_at_first c.if-short.true in
-    (more a.output.now _ _ l.at w.result l.output w.new.output l.invariant.at_is l.invariant.written w.ensures.value w.ensures.output_after).1
-    ∙ ap (sets a.output.now 0) (sym e)
+    let h : n.result < a.functions * a.patterns =
+    omega (arith, end a.first.now a.second.now a.functions a.patterns l.place n.result l.invariant.place_within n.ensures) in
+    let e = sym (only a.first.now a.second.now a.functions a.patterns l.place n.result l.invariant.place_within n.ensures h a.short
+    l.invariant.short_at_first c.if-short.true) in
+    let m = more a.output.now _ _ l.at w.result l.output w.new.output l.invariant.at_is l.invariant.written w.ensures.value w.ensures.output_after in
+    record { value = m.0 ∙ ap length e; output_after = m.1 ∙ ap (sets a.output.now 0) e }
 
 pub overflow_add-place : goal.overflow_add-place
 overflow_add-place c =
@@ -170,7 +154,7 @@ loop-place-smaller c =
     omega (
       arith,
       from a.first.now a.second.now a.functions a.patterns l.place n.result l.invariant.place_within n.ensures,
-      below a.first.now a.second.now a.functions a.patterns l.place n.result l.invariant.place_within n.ensures c.if-next-count.false,
+      end a.first.now a.second.now a.functions a.patterns l.place n.result l.invariant.place_within n.ensures,
     )
 
 pub loop-place-preserved : goal.loop-place-preserved
@@ -180,29 +164,21 @@ loop-place-preserved c =
     let n = c.next_difference-next in
     let w = c.write_line-at in
     let k = from a.first.now a.second.now a.functions a.patterns l.place n.result l.invariant.place_within n.ensures in
-    let h = below a.first.now a.second.now a.functions a.patterns l.place n.result l.invariant.place_within n.ensures c.if-next-count.false in
-    let e = next_lines a.first.now a.second.now a.functions a.patterns l.place n.result l.invariant.place_within n.ensures c.if-next-count.false in
+    let h : n.result < a.functions * a.patterns =
+    omega (arith, end a.first.now a.second.now a.functions a.patterns l.place n.result l.invariant.place_within n.ensures) in
+    let e = sym (next_lines a.first.now a.second.now a.functions a.patterns l.place n.result l.invariant.place_within n.ensures h) in
     let m = more a.output.now _ _ l.at w.result l.output w.new.output l.invariant.at_is l.invariant.written w.ensures.value w.ensures.output_after in
     record {
       place_within = omega (arith, h);
       at_most = omega (arith, k, line_length a.first.now a.second.now a.functions a.patterns n.result);
-      at_is = m.0 ∙ ap length (sym e);
-      written = m.1 ∙ ap (sets a.output.now 0) (sym e);
+      at_is = m.0 ∙ ap length e;
+      written = m.1 ∙ ap (sets a.output.now 0) e;
       short_at_first = λ t. absurd (true≢false (sym t ∙ c.if-short.false));
     }
 
-pub returns-clause-value : goal.returns-clause-value
-returns-clause-value c =
+pub returns : goal.returns
+returns c =
     let a = c.args in
     let l = c.loop-place in
-    l.invariant.at_is
-    ∙ ap length (sym (whole a.first.now a.second.now a.functions a.patterns l.place a.short l.invariant.short_at_first l.invariant.place_within
-    c.loop-place-test.false))
-
-pub returns-clause-output_after : goal.returns-clause-output_after
-returns-clause-output_after c =
-    let a = c.args in
-    let l = c.loop-place in
-    l.invariant.written
-    ∙ ap (sets a.output.now 0) (sym (whole a.first.now a.second.now a.functions a.patterns l.place a.short l.invariant.short_at_first
-    l.invariant.place_within c.loop-place-test.false))
+    let e = sym (whole a.first.now a.second.now a.functions a.patterns l.place a.short l.invariant.short_at_first l.invariant.place_within (omega arith)) in
+    record { value = l.invariant.at_is ∙ ap length e; output_after = l.invariant.written ∙ ap (sets a.output.now 0) e }
