@@ -1,5 +1,5 @@
 -- Document 02, P1: "the first two sections as in document 01; then, in the third, 4 for a missing count, 7 for a count that is not
--- F-as-N, 4 for missing answers, 6 for bytes after the answers; the first listing's fault goes before the second's, and 8, the two
+-- F·N, 4 for missing answers, 6 for bytes after the answers; the first listing's fault goes before the second's, and 8, the two
 -- listings ask different things, comes last." Which refusal comes first, for any bytes, and what the readers return.
 use Rattle.std.specs.Prelude.{ℕ, ◌+◌, ◌*◌, List, [], ◌∷◌, Bool, true, false, not, ◌&&◌, length, ltb, eqb}
 use Rattle.refusals.specs.declared.Refusal.{Refusal}
@@ -13,7 +13,7 @@ use Rattle.sections.specs.Order.{sections_refusal, counted}
 unfoldable pub answers_of : List ℕ → List ℕ
 answers_of b = section_at b (past_patterns b)
 
--- F-as-N
+-- F·N
 abbrev pub asks : List ℕ → ℕ
 asks b = length (functions_of b) * length (patterns_of b)
 
