@@ -1,6 +1,7 @@
 # Sourced by the scripts that build C over the library for a machine and run it, after `machine` is set, from the folder `top`.
 # Makes the library for it in the folder `room`, which is removed at the end, and sets compile to the compiler with its flags,
-# math to its library of mathematics, and start to what starts its programs here. A program for another machine is linked statically: it needs no loader then.
+# math to its library of mathematics, and start to what starts its programs here. A program for another machine is linked
+# statically: it needs no loader then.
 . "$top/tools/kit.sh"
 need() { command -v "$1" >/dev/null || stop "no $1 on this machine: Debian's package $2 has it"; }
 start=()
@@ -9,14 +10,6 @@ case $machine in
 "$(uname -m)")
     need cc gcc
     compile=(cc)
-    ;;
-x86_64)
-    need x86_64-linux-gnu-gcc gcc-x86-64-linux-gnu
-    compile=(x86_64-linux-gnu-gcc -static)
-    # libm.a of Debian's cross compiler is a script that names files where a native one has them
-    folder=$(dirname "$(x86_64-linux-gnu-gcc -print-file-name=libm.a)")
-    math=("$folder"/libm-*.a "$folder"/libmvec.a)
-    start=("$emulator")
     ;;
 aarch64)
     need aarch64-linux-gnu-gcc gcc-aarch64-linux-gnu
