@@ -18,6 +18,12 @@ slice_range-put_mid a k n xs ys within fits =
     let after = post_of a k xs in
     ap (take ((a + n) - a)) (drop_at (take a xs) (ys ++ after) a (length-take-le a xs within)) ∙ ap (λ m. take m (ys ++ after)) same ∙ take-append-le n ys after fits
 
+pub loop-count-init : goal.loop-count-init
+loop-count-init g c = record {
+  within = omega arith;
+  bytes = search rules;
+}
+
 pub loop-count-preserved : goal.loop-count-preserved
 loop-count-preserved g c =
     let from = c.loop-count.count in
