@@ -28,8 +28,8 @@ pub returns-then-output-input-clause-output_after : goal.returns-then-output-inp
 returns-then-output-input-clause-output_after c =
     let a = c.args in
     let k : known a.function ≡ true = cc in
-    let r = c.refused-then-output-input in
-    (refused_does_nothing a.function a.input.now a.output.now a.start a.limit Output r.result (output_short a.function _ _ _ k (omega arith)) refl r.ensures).1
+    let q = c.refused-then-output-input in
+    (refused_does_nothing a.function a.input.now a.output.now a.start a.limit Output q.result (output_short a.function _ _ _ k (omega arith)) refl q.ensures).1
 
 pub returns-then-input-start-clause-value : goal.returns-then-input-start-clause-value
 returns-then-input-start-clause-value c =
@@ -45,7 +45,7 @@ returns-clause-value c =
     let n = c.smaller-n in
     let g = c.fill-nars in
     (accepted_does a.function a.input.now a.output.now a.start a.limit n.result g.result g.new.output (not_refused a.function _ _ _ k (omega arith) (omega arith))
-    n.ensures g.ensures.value g.ensures.output_after).0
+    (omega arith) g.ensures.value g.ensures.output_after).0
 
 pub returns-clause-output_after : goal.returns-clause-output_after
 returns-clause-output_after c =
@@ -54,4 +54,4 @@ returns-clause-output_after c =
     let n = c.smaller-n in
     let g = c.fill-nars in
     (accepted_does a.function a.input.now a.output.now a.start a.limit n.result g.result g.new.output (not_refused a.function _ _ _ k (omega arith) (omega arith))
-    n.ensures g.ensures.value g.ensures.output_after).1
+    (omega arith) g.ensures.value g.ensures.output_after).1

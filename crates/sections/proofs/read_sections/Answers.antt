@@ -65,6 +65,8 @@ returns-then-number-ne0-2 c =
     c.refused-then-number-ne0-2.ensures
     ∙ refused_counts b second.result (patterns-last b w k ∙ sym (second_is b second.result count.result second.ensures count.ensures)) n
 
+-- nothing refuses the two sections:
+-- what is found is what stands there
 pub returns : goal.returns
 returns c =
     let b = c.args.bytes.now in
