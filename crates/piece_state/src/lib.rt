@@ -96,6 +96,7 @@ fn of_listing(refusal: Refusal) -> bool
 }
 
 // The refusal that has come once these bytes have. That they are cut short is for the end call to say.
+#[tactic(auto, unfolding(crate::specs::State::so_far_of))]
 pub fn so_far(bytes: &[u8]) -> Refusal
     ensures { result ≡ so_far_of bytes.now }
 {

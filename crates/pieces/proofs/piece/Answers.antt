@@ -36,12 +36,9 @@ module _ (s : Pieces) (full : length s.bytes ≡ 2072) (g : Good s) (p left : Li
   now_full : length whole ≡ 2072
   now_full = next-size s full g p left wrote
 
-  now_within : length p ≤ 2072 - s.count → s.count + length p ≤ length whole
-  now_within h = omega (arith, now_full, g.within)
-
-  -- what was found of the bytes so far and the next ones
-  found : {r : Refusal} → length p ≤ 2072 - s.count → r ≡ so_far_of (take (s.count + length p) whole) → so_far_of all ≡ r
-  found h e = ap so_far_of (sym (next-first s full g p left wrote h)) ∙ sym e
+  -- what was found of the first m of them
+  found : {r : Refusal} {m : ℕ} → r ≡ so_far_of (take m whole) → m ≡ s.count + length p → length p ≤ 2072 - s.count → so_far_of all ≡ r
+  found e q h = ap so_far_of (sym (next-first s full g p left wrote h)) ∙ sym (e ∙ ap (λ (k : ℕ). so_far_of (take k whole)) q)
 
 pub returns-then-number-ne0 : goal.returns-then-number-ne0
 returns-then-number-ne0 c =
@@ -51,10 +48,10 @@ returns-then-number-ne0 c =
     ∙ sym (refused_piece s c.args.bytes.now (ap is_none (sym r.ensures) ∙ refuses r.result c.number.result c.number.ensures c.if-number-ne0.true))
 
 pub slice_bounds-copy-count : goal.slice_bounds-copy-count
-slice_bounds-copy-count c = within c.args.state c.handed_in-handed.ensures c.number.ensures c.if-number-ne0.false
+slice_bounds-copy-count c = omega (arith, within c.args.state c.handed_in-handed.ensures c.number.ensures c.if-number-ne0.false)
 
 pub slice_bounds-next-start : goal.slice_bounds-next-start
-slice_bounds-next-start c = within c.args.state c.handed_in-handed.ensures c.number.ensures c.if-number-ne0.false
+slice_bounds-next-start c = omega (arith, within c.args.state c.handed_in-handed.ensures c.number.ensures c.if-number-ne0.false)
 
 pub overflow_sub-count : goal.overflow_sub-count
 overflow_sub-count c = within c.args.state c.handed_in-handed.ensures c.number.ensures c.if-number-ne0.false
@@ -77,14 +74,14 @@ slice_bounds-next-end-2 c =
     let s = c.args.state in
     let full : length s.bytes ≡ 2072 = search rules in
     let g = good s c.handed_in-handed.ensures c.number.ensures c.if-number-ne0.false in
-    now_within s full g c.args.bytes.now c.copy.new.output c.copy.ensures (omega arith)
+    omega (arith, now_full s full g c.args.bytes.now c.copy.new.output c.copy.ensures, g.within)
 
 pub slice_bounds-so_far-end : goal.slice_bounds-so_far-end
 slice_bounds-so_far-end c =
     let s = c.args.state in
     let full : length s.bytes ≡ 2072 = search rules in
     let g = good s c.handed_in-handed.ensures c.number.ensures c.if-number-ne0.false in
-    sym (length-take-le _ _ (now_within s full g c.args.bytes.now c.copy.new.output c.copy.ensures (omega arith)))
+    sym (length-take-le _ _ (omega (arith, now_full s full g c.args.bytes.now c.copy.new.output c.copy.ensures, g.within)))
 
 pub returns-then-number-ne0-2 : goal.returns-then-number-ne0-2
 returns-then-number-ne0-2 c =
@@ -95,7 +92,7 @@ returns-then-number-ne0-2 c =
     let g = good s c.handed_in-handed.ensures c.number.ensures c.if-number-ne0.false in
     let r = c.so_far-refusal in
     let refused = refuses r.result c.number-2.result c.number-2.ensures c.if-number-ne0-2.true in
-    let met = found s full g p c.copy.new.output c.copy.ensures (omega arith) r.ensures in
+    let met = found s full g p c.copy.new.output c.copy.ensures r.ensures (omega arith) (omega arith) in
     c.met-then-number-ne0-2.ensures ∙ sym (taken-piece s n p ∙ met_piece (bytes_so_far s ++ p) r.result met refused)
 
 pub returns : goal.returns
@@ -107,7 +104,7 @@ returns c =
     let g = good s c.handed_in-handed.ensures c.number.ensures c.if-number-ne0.false in
     let r = c.so_far-refusal in
     let open-still = accepts r.result c.number-2.result c.number-2.ensures c.if-number-ne0-2.false in
-    let met = found s full g p c.copy.new.output c.copy.ensures (omega arith) r.ensures in
+    let come = found s full g p c.copy.new.output c.copy.ensures r.ensures (omega arith) (omega arith) in
     let kept = next-keeps s full g p c.copy.new.output c.copy.ensures (omega arith) r.result in
     ap (λ (x : Pieces). record { state = x; refusal = r.result }) kept
-    ∙ sym (taken-piece s n p ∙ next_piece (bytes_so_far s ++ p) r.result met open-still)
+    ∙ sym (taken-piece s n p ∙ next_piece (bytes_so_far s ++ p) r.result come open-still)

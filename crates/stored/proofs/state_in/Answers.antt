@@ -1,3 +1,4 @@
+-- As many bytes as the state keeps are the first ones.
 use Rattle.std.proofs.Common.{◌≡◌, ℕ, List, [], length, take, ap, ◌∙◌, rules, arith}
 use Rattle.refusals.specs.declared.Refusal.{Refusal}
 use Rattle.refusals.specs.Refusals.{refusal_numbered}
