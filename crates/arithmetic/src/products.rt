@@ -5,7 +5,7 @@ ghost use Rattle.arithmetic.specs.Operations.{product};
 ghost use Rattle.arithmetic.specs.Sizes.{Scaled};
 
 // The magnitude of a number: significand * 2^(power - 40), with no significand for zero.
-#[derive(Drop)]
+#[derive(Clone, Copy)]
 struct Parts {
     significand: u32,
     power: u32,

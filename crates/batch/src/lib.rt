@@ -9,7 +9,7 @@ ghost use Rattle.batch.specs.Batch.{batched_of, output_of};
 use refusals::Refusal;
 
 // What a call did: the place to go on from, how many NaR it wrote, and why it was refused, if it was.
-#[derive(Drop)]
+#[derive(Clone, Copy)]
 pub struct Batched {
     pub next: usize,
     pub nars: usize,

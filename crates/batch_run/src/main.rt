@@ -22,7 +22,7 @@ fn main(rt: HostRuntime) -> io::Result<()> {
     print(&rt, calls, differ)
 }
 
-#[derive(Drop)]
+#[derive(Clone, Copy)]
 struct Tally {
     calls: u64,
     differ: u64,

@@ -3,7 +3,7 @@ ghost use Rattle.std.specs.Prelude.{◌≡◌, ◌≤◌, length};
 
 use super::cases::Case;
 
-#[derive(Drop)]
+#[derive(Clone, Copy)]
 pub struct Plain {
     pub refusal: u16,
     pub next: usize,

@@ -31,7 +31,7 @@ pub fn input_block() -> [u8; 131072]
 }
 
 // What a block of input holds: how many bytes, whether it is full, so that more may follow, and whether a read failed.
-#[derive(Drop)]
+#[derive(Clone, Copy)]
 pub struct Block {
     pub count: usize,
     pub full: bool,

@@ -2,7 +2,7 @@
 ghost use Rattle.std.specs.Prelude.{◌≡◌, ◌^◌, ◌<◌};
 ghost use Rattle.circular.specs.Quadrants.{quadrant, rest, reflected};
 
-#[derive(Drop)]
+#[derive(Clone, Copy)]
 pub struct Reduced {
     pub quadrant: u64,
     pub rest: u64,

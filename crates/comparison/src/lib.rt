@@ -11,7 +11,7 @@ use answered::read_pair;
 use refusals::Refusal;
 
 // The next place that differs, 0 where the two are refused, and why they are, if they are.
-#[derive(Drop)]
+#[derive(Clone, Copy)]
 pub struct Found {
     pub place: usize,
     pub refusal: Refusal,

@@ -11,7 +11,7 @@ use refusals::Refusal;
 use sections::Sections;
 
 // What a call did: how many bytes it wrote, and why it was refused, if it was.
-#[derive(Drop)]
+#[derive(Clone, Copy)]
 pub struct Listed {
     pub written: usize,
     pub refusal: Refusal,

@@ -4,13 +4,13 @@ ghost use Rattle.p16e1.specs.Functions.{known, Answers, AnswersSided, answer_of}
 
 use posit::Sided;
 
-#[derive(Drop)]
+#[derive(Clone, Copy)]
 pub enum Answered {
     Pattern(u16),
     Unknown,
 }
 
-#[derive(Drop)]
+#[derive(Clone, Copy)]
 pub enum AnsweredSided {
     Pattern(Sided),
     Unknown,

@@ -12,14 +12,14 @@ use refusals::{Refusal, number};
 const LONGEST: usize = 2072;
 
 // What a piece call hands back, and why it was refused, if it was.
-#[derive(Drop)]
+#[derive(Clone, Copy)]
 pub struct Pieced {
     pub state: Pieces,
     pub refusal: Refusal,
 }
 
 // What an end call hands back, how many bytes it wrote, and why it was refused, if it was.
-#[derive(Drop)]
+#[derive(Clone, Copy)]
 pub struct Ended {
     pub state: Pieces,
     pub written: usize,

@@ -7,7 +7,7 @@ ghost use Rattle.posit.specs.Number.{bit, run, regime, magnitude};
 ghost use Rattle.posit.specs.Decoding.{Decodes};
 
 // (1 + fraction / 4096) * 2^power, in units of 2^-28.
-#[derive(Drop)]
+#[derive(Clone, Copy)]
 pub struct Decoded {
     pub power: u32,
     pub fraction: u32,
@@ -15,7 +15,7 @@ pub struct Decoded {
 
 // A pattern's regime, counted from the smallest, and its bits with the run and the bit that ends it shifted out: the exponent
 // stands at bit 63 and the fraction below it.
-#[derive(Drop)]
+#[derive(Clone, Copy)]
 struct Fields {
     regime: u32,
     bits: u64,

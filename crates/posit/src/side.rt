@@ -2,7 +2,7 @@
 ghost use Rattle.std.specs.Prelude.{◌≡◌, if◌then◌else◌};
 ghost use Rattle.posit.specs.Sides.{mirrored, outright, negated_sided, side_number_of};
 
-#[derive(Drop)]
+#[derive(Clone, Copy)]
 pub enum Side {
     Below,
     On,
@@ -10,7 +10,7 @@ pub enum Side {
 }
 
 // An answer, and where it lies.
-#[derive(Drop)]
+#[derive(Clone, Copy)]
 pub struct Sided {
     pub pattern: u16,
     pub side: Side,

@@ -4,7 +4,7 @@ ghost use Rattle.posit.specs.Number.{magnitude};
 ghost use Rattle.real.specs.Reals.{Exactly, ToF64};
 
 // A real with its f64, or NaR.
-#[derive(Drop)]
+#[derive(Clone, Copy)]
 pub enum RealAnswer {
     Real(f64),
     NaR,

@@ -14,7 +14,7 @@ const MOST_PATTERNS: u16 = 1024;
 
 // How many functions and patterns there are, none of either where the sections are refused, and the first refusal of the two
 // sections. Bytes after them are not looked at.
-#[derive(Drop)]
+#[derive(Clone, Copy)]
 pub struct Sections {
     pub functions: usize,
     pub patterns: usize,

@@ -4,7 +4,7 @@ ghost use Rattle.spans.specs.Spans.{at, tied, edge_place, edge_bits_of};
 
 // How a span stands at an edge: there is none, and the span goes on without end; or the span goes up to it, without that number
 // or with it.
-#[derive(Drop)]
+#[derive(Clone, Copy)]
 pub enum Edge {
     Missing,
     Excluded,
@@ -12,7 +12,7 @@ pub enum Edge {
 }
 
 // An edge by the 17-bit posit whose number it is; 0 where it is missing.
-#[derive(Drop)]
+#[derive(Clone, Copy)]
 pub struct Place {
     pub posit: u32,
     pub edge: Edge,

@@ -12,7 +12,7 @@ use edges::place_of;
 pub use edges::{Edge, edge_bits};
 
 // The edges' numbers, lower and upper, +0.0 for one that is missing, and how the span stands at each.
-#[derive(Drop)]
+#[derive(Clone, Copy)]
 pub struct Span {
     pub lower: f64,
     pub upper: f64,
@@ -21,7 +21,7 @@ pub struct Span {
 }
 
 // A span, or NaR, which has none.
-#[derive(Drop)]
+#[derive(Clone, Copy)]
 pub enum SpanAnswer {
     Edges(Span),
     NaR,

@@ -9,7 +9,7 @@ use crate::matrix::{arm_times, matrix_times};
 const ONE: u16 = 0x4000;
 
 // What a matrix has of its angle: the sine, minus the sine, and the cosine.
-#[derive(Drop)]
+#[derive(Clone, Copy)]
 struct Wave {
     sine: u16,
     minus: u16,

@@ -12,7 +12,7 @@ mod points;
 mod print;
 
 // What has been compared so far.
-#[derive(Drop)]
+#[derive(Clone, Copy)]
 struct Tally {
     compared: u64,
     differ: u64,
