@@ -61,7 +61,7 @@ enum Next {
     Failed,
 }
 
-// Converts the next block, and answers whether there may be more. A block is of whole patterns unless it is the last.
+// Converts the next block, and answers what comes after it. A block is of whole patterns unless it is the last.
 fn convert_block(rt: &(impl Input + Print + Eprint)) -> Next {
     let mut input = blocks::input_block();
     let block = blocks::read_block(rt, &mut input);
