@@ -57,7 +57,6 @@ pub fn answer_or_nar(function: u16, p: u16) -> u16
 }
 
 // The answer of the function with that number, and the side on which it lies of the number that was rounded.
-#[tactic(auto, unfolding(crate::specs::Functions::row_of))]
 pub fn answer_sided(function: u16, p: u16) -> AnsweredSided
     ensures { AnswersSided function p result }
 {
