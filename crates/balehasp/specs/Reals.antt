@@ -1,12 +1,10 @@
 -- What the entries for reals return and leave in the places lent, for each case of the answers of the crate real: true with
 -- what the answer holds, or false with the places as they were.
-use Rattle.std.specs.Prelude.{ℕ, ◌+◌, ◌*◌, ◌≡◌, Bool, true, false, Float}
+use Rattle.std.specs.Prelude.{ℕ, ◌+◌, ◌*◌, ◌≡◌, Bool, true, false, Float, Option, Some, None}
 use Rattle.real.specs.declared.numbers.RealAnswer.{RealAnswer}
 use Rattle.real.specs.declared.numbers.RealAnswer.TheVariants.{Real, NaR}
 use Rattle.real.specs.Reals.{ToF64}
-use Rattle.spans.specs.declared.SpanAnswer.{SpanAnswer}
-use Rattle.spans.specs.declared.SpanAnswer.TheVariants.{Edges}
-use Rattle.spans.specs.declared.SpanAnswer.TheVariants as Spans
+use Rattle.spans.specs.declared.Span.{Span}
 use Rattle.spans.specs.Spans.{SpanOf, lower_place, upper_place, edge_bits_of}
 
 abbrev pub RealOut : ℕ → Float → Bool → Float → Type 0
@@ -17,9 +15,9 @@ RealOut p was false left = ToF64 p NaR × (left ≡ was)
 abbrev pub edges_of : ℕ → ℕ
 edges_of p = edge_bits_of (lower_place p).edge + 4 * edge_bits_of (upper_place p).edge
 
-abbrev pub span_of : ℕ → Float → Float → SpanAnswer
-span_of p lower upper = Edges (record { lower = lower; upper = upper; start = (lower_place p).edge; end = (upper_place p).edge })
+abbrev pub span_of : ℕ → Float → Float → Option Span
+span_of p lower upper = Some (record { lower = lower; upper = upper; start = (lower_place p).edge; end = (upper_place p).edge })
 
 abbrev pub SpanOut : ℕ → Float → Float → ℕ → Bool → Float → Float → ℕ → Type 0
 SpanOut p low up was true lower upper edges = SpanOf p (span_of p lower upper) × (edges ≡ edges_of p)
-SpanOut p low up was false lower upper edges = SpanOf p Spans.NaR × (lower ≡ low) × (upper ≡ up) × (edges ≡ was)
+SpanOut p low up was false lower upper edges = SpanOf p None × (lower ≡ low) × (upper ≡ up) × (edges ≡ was)

@@ -25,13 +25,11 @@ pub extern "C" fn balehasp_from_f64(x: f64) -> u16
 pub extern "C" fn balehasp_span(p: u16, lower: &mut f64, upper: &mut f64, edges: &mut u8) -> bool
     ensures { SpanOut p lower.old upper.old edges.old result lower.new upper.new edges.new }
 {
-    let spans::SpanAnswer::Edges(s) = spans::span_of(p) else {
+    let Some(s) = spans::span_of(p) else {
         return false;
     };
-    let start = s.start;
-    let end = s.end;
     *lower = s.lower;
     *upper = s.upper;
-    *edges = spans::edge_bits(start, end);
+    *edges = spans::edge_bits(s.start, s.end);
     true
 }

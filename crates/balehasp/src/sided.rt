@@ -10,11 +10,10 @@ pub extern "C" fn balehasp_sided(function: u16, p: u16, answer: &mut u16, side: 
     ensures answer_after { answer.new ≡ cond (known function) (answer_of function p) answer.old }
     ensures side_after { side.new ≡ cond (known function) (side_number_of (sided_answer_of function p).side) side.old }
 {
-    let p16e1::AnsweredSided::Pattern(a) = p16e1::answer_sided(function, p) else {
-        return 1;
-    };
-    let s = a.side;
-    *answer = a.pattern;
-    *side = posit::side_number(s);
-    0
+    let answered = p16e1::answer_sided(function, p);
+    if let Ok(a) = answered {
+        *answer = a.pattern;
+        *side = i8::from(a.side);
+    }
+    refusals::number(answered.err())
 }
