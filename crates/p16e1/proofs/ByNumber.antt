@@ -1,19 +1,18 @@
--- The function by number: the numbers that are known, and the one answer that a known function has.
-use Prim.Native.Nat.{ℕ, ◌+◌, ◌≤◌, ◌<◌}
+-- The one answer that a known function has.
+use Prim.Native.Nat.{ℕ}
 use mathlib.Core.Path.{◌≡◌, ap, refl}
 use mathlib.Core.Bool.{true, false, cond}
-use native.Mathlib.Decide.{dec_lt}
 use native.Mathlib.Omega.{arith}
-use borrow.Author.Tests.{le-leb, lt-leb}
 use lib.Dec.{eqb, lit≤}
+use Rattle.std.specs.Prelude.{Result, Ok, Err}
 use Rattle.posit.proofs.Exists.{answered}
 use Rattle.posit.specs.declared.side.Sided.{Sided}
 use Rattle.rows.specs.Rows.{Row, names, rounds, Meets, MeetsSided}
-use Rattle.p16e1.specs.Functions.{known, row_of, Answers, AnswersSided, answer_to, answer_of, sided_to, sided_answer_of}
-use Rattle.p16e1.specs.declared.functions.Answered.{Answered}
-use Rattle.p16e1.specs.declared.functions.Answered.TheVariants.{Pattern, Unknown}
-use Rattle.p16e1.specs.declared.functions.AnsweredSided.{AnsweredSided}
-use Rattle.p16e1.specs.declared.functions.AnsweredSided.TheVariants as Side
+use Rattle.p16e1.specs.Functions.{known, function_number, function_numbered, row_of, Answers, AnswersSided, answer_to, answer_of, sided_to, sided_answer_of}
+use Rattle.refusals.specs.declared.Refusal.{Refusal}
+use Rattle.refusals.specs.declared.Refusal.TheVariants as Why
+use Rattle.p16e1.specs.declared.functions.Function.{Function}
+use Rattle.std.proofs.lemmas.Bool.Decides.{nat_tests}
 use Rattle.exponential.specs.Exp as Exp
 use Rattle.exponential.specs.Exp2 as Exp2
 use Rattle.logarithm.specs.Ln as Ln
@@ -30,31 +29,13 @@ use Rattle.logarithm.proofs.OneAnswer.{ln_row, log2_row}
 use Rattle.circular.proofs.OneAnswer.{sin_pi_row, cos_pi_row, tan_pi_row}
 use Rattle.arc.proofs.OneAnswer.{atan_pi_row, asin_pi_row, acos_pi_row}
 
-pub known-within : (f : ℕ) → 1 ≤ f → f ≤ 10 → known f ≡ true
-known-within f l h = rw (le-leb 1 f l, le-leb f 10 h)
+-- a number that has a function is known, and is that function's
+pub numbered_is : (n : ℕ) (f : Function) → function_numbered n ≡ Ok f → (known n ≡ true) × (function_number f ≡ n)
+numbered_is n f e = grind (arith, nat_tests, e)
 
-pub unknown_below : (f : ℕ) → f < 1 → known f ≡ false
-unknown_below f l = rw (lt-leb 1 f l)
-
-pub unknown_above : (f : ℕ) → 10 < f → known f ≡ false
-unknown_above f h = rw (le-leb 1 f (omega arith), lt-leb f 10 h)
-
--- What the last arm of a match over the ten numbers is told.
-abbrev pub NoneOfTen : ℕ → Type 0
-NoneOfTen f =
-    (((((((((Unit {0} × (f ≡ 1 → ⊥)) × (f ≡ 2 → ⊥)) × (f ≡ 3 → ⊥)) × (f ≡ 4 → ⊥)) × (f ≡ 5 → ⊥)) × (f ≡ 6 → ⊥)) × (f ≡ 7 → ⊥)) × (f ≡ 8 → ⊥))
-    × (f ≡ 9 → ⊥)) × (f ≡ 10 → ⊥)
-
-past_five : (k f : ℕ) → k ≤ f → (f ≡ k → ⊥) → (f ≡ k + 1 → ⊥) → (f ≡ k + 2 → ⊥) → (f ≡ k + 3 → ⊥) → (f ≡ k + 4 → ⊥) → k + 5 ≤ f
-past_five k f l n₀ n₁ n₂ n₃ n₄ = omega arith
-
-outside : (f : ℕ) → Dec (f < 1) → (1 ≤ f → 10 < f) → known f ≡ false
-outside f (yes h) out = unknown_below f h
-outside f (no h) out = unknown_above f (out (omega arith))
-
-pub unknown_none : (f : ℕ) → NoneOfTen f → known f ≡ false
-unknown_none f ((((((((((u, n₁), n₂), n₃), n₄), n₅), n₆), n₇), n₈), n₉), n₁₀) =
-    outside f (dec_lt f 1) (λ l. past_five 6 f (past_five 1 f l n₁ n₂ n₃ n₄ n₅) n₆ n₇ n₈ n₉ n₁₀)
+-- a number that has none is not
+pub numbered_not : (n : ℕ) (e : Refusal) → function_numbered n ≡ Err e → (known n ≡ false) × (e ≡ Why.Function)
+numbered_not n e h = grind (arith, nat_tests, h)
 
 -- each row by its number
 row_straight : (f p : ℕ) → StraightRow (row_of f p)
@@ -101,14 +82,14 @@ unfolding sided_answer_of answer_of
 sided_answer f p = refl
 
 -- any two answers that the contract allows are equal
-pub one-answered : (f p : ℕ) (a b : Answered) → Answers f p a → Answers f p b → a ≡ b
-one-answered f p (Pattern r) (Pattern s) m n = ap Pattern (one (row_of f p) (row_straight f p) r s m.1 n.1)
-one-answered f p (Pattern r) Unknown m n = let z : ◌≡◌ {A = ℕ} 0 1 = cc in absurd (omega arith)
-one-answered f p Unknown (Pattern s) m n = let z : ◌≡◌ {A = ℕ} 0 1 = cc in absurd (omega arith)
-one-answered f p Unknown Unknown m n = refl
+pub one-answered : (f p : ℕ) (a b : Result ℕ Refusal) → Answers f p a → Answers f p b → a ≡ b
+one-answered f p (Ok r) (Ok s) m n = ap Ok (one (row_of f p) (row_straight f p) r s m.1 n.1)
+one-answered f p (Ok r) (Err d) m n = cc
+one-answered f p (Err e) (Ok s) m n = cc
+one-answered f p (Err e) (Err d) m n = cc
 
-pub one-answered_sided : (f p : ℕ) (a b : AnsweredSided) → AnswersSided f p a → AnswersSided f p b → a ≡ b
-one-answered_sided f p (Side.Pattern r) (Side.Pattern s) m n = ap Side.Pattern (one_sided (row_of f p) (row_straight f p) r s m.1 n.1)
-one-answered_sided f p (Side.Pattern r) Side.Unknown m n = let z : ◌≡◌ {A = ℕ} 0 1 = cc in absurd (omega arith)
-one-answered_sided f p Side.Unknown (Side.Pattern s) m n = let z : ◌≡◌ {A = ℕ} 0 1 = cc in absurd (omega arith)
-one-answered_sided f p Side.Unknown Side.Unknown m n = refl
+pub one-answered_sided : (f p : ℕ) (a b : Result Sided Refusal) → AnswersSided f p a → AnswersSided f p b → a ≡ b
+one-answered_sided f p (Ok r) (Ok s) m n = ap Ok (one_sided (row_of f p) (row_straight f p) r s m.1 n.1)
+one-answered_sided f p (Ok r) (Err d) m n = cc
+one-answered_sided f p (Err e) (Ok s) m n = cc
+one-answered_sided f p (Err e) (Err d) m n = cc

@@ -1,5 +1,5 @@
 -- "Function numbers: 1 exp, 2 exp2, 3 ln, 4 log2, 5 sin_pi, 6 cos_pi, 7 tan_pi, 8 atan_pi, 9 asin_pi, 10 acos_pi."
-use Rattle.std.specs.Prelude.{ℕ, ◌≡◌, Bool, true, false, cond, eqb}
+use Rattle.std.specs.Prelude.{ℕ, ◌≡◌, Bool, true, false, cond, eqb, Result, Ok, Err}
 use Rattle.posit.specs.Answer as Rounding
 use Rattle.posit.specs.declared.side.Sided.{Sided}
 use Rattle.rows.specs.Rows.{Row, names, rounds, Meets, MeetsSided, side_in, within}
@@ -13,10 +13,36 @@ use Rattle.circular.specs.TanPi as TanPi
 use Rattle.arc.specs.AtanPi as AtanPi
 use Rattle.arc.specs.AsinPi as AsinPi
 use Rattle.arc.specs.AcosPi as AcosPi
-use Rattle.p16e1.specs.declared.functions.Answered.{Answered}
-use Rattle.p16e1.specs.declared.functions.Answered.TheVariants.{Pattern, Unknown}
-use Rattle.p16e1.specs.declared.functions.AnsweredSided.{AnsweredSided}
-use Rattle.p16e1.specs.declared.functions.AnsweredSided.TheVariants as Side
+use Rattle.refusals.specs.declared.Refusal.{Refusal}
+use Rattle.refusals.specs.declared.Refusal.TheVariants as Why
+use Rattle.p16e1.specs.declared.functions.Function.{Function}
+use Rattle.p16e1.specs.declared.functions.Function.TheVariants.{Exp, Exp2, Ln, Log2, SinPi, CosPi, TanPi, AtanPi, AsinPi, AcosPi}
+
+abbrev pub function_number : Function → ℕ
+function_number Exp = 1
+function_number Exp2 = 2
+function_number Ln = 3
+function_number Log2 = 4
+function_number SinPi = 5
+function_number CosPi = 6
+function_number TanPi = 7
+function_number AtanPi = 8
+function_number AsinPi = 9
+function_number AcosPi = 10
+
+-- "1 function number outside 1 to 10"
+abbrev pub function_numbered : ℕ → Result Function Refusal
+function_numbered n =
+    cond (eqb n 1) (Ok Exp)
+    (cond (eqb n 2) (Ok Exp2)
+    (cond (eqb n 3) (Ok Ln)
+    (cond (eqb n 4) (Ok Log2)
+    (cond (eqb n 5) (Ok SinPi)
+    (cond (eqb n 6) (Ok CosPi)
+    (cond (eqb n 7) (Ok TanPi)
+    (cond (eqb n 8) (Ok AtanPi)
+    (cond (eqb n 9) (Ok AsinPi)
+    (cond (eqb n 10) (Ok AcosPi) (Err Why.Function))))))))))
 
 abbrev pub known : ℕ → Bool
 known f = within 1 10 f
@@ -35,14 +61,14 @@ row_of f p =
     (cond (eqb f 9) (AsinPi.row p) (AcosPi.row p)))))))))
 
 -- what each answer means
-abbrev pub Answers : ℕ → ℕ → Answered → Type 0
-Answers f p (Pattern r) = (known f ≡ true) × Meets (row_of f p) r
-Answers f p Unknown = known f ≡ false
+abbrev pub Answers : ℕ → ℕ → Result ℕ Refusal → Type 0
+Answers f p (Ok r) = (known f ≡ true) × Meets (row_of f p) r
+Answers f p (Err e) = (known f ≡ false) × (e ≡ Why.Function)
 
 -- and with the side, "in a second entry beside the old one"
-abbrev pub AnswersSided : ℕ → ℕ → AnsweredSided → Type 0
-AnswersSided f p (Side.Pattern a) = (known f ≡ true) × MeetsSided (row_of f p) a
-AnswersSided f p Side.Unknown = known f ≡ false
+abbrev pub AnswersSided : ℕ → ℕ → Result Sided Refusal → Type 0
+AnswersSided f p (Ok a) = (known f ≡ true) × MeetsSided (row_of f p) a
+AnswersSided f p (Err e) = (known f ≡ false) × (e ≡ Why.Function)
 
 -- the answer that a row has, computed: Meets says that it is the row's
 abbrev pub answer_to : Row → ℕ

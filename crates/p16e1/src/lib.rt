@@ -1,6 +1,6 @@
-// The ten functions of the posit of sixteen bits with one exponent bit, by their numbers.
+// The ten functions of the posit of sixteen bits with one exponent bit, and their numbers.
 #![tactic(auto)]
 
 mod functions;
 
-pub use functions::{Answered, AnsweredSided, answer, answer_or_nar, answer_sided, is_known};
+pub use functions::{Function, answer, answer_or_nar, answer_sided, is_known};

@@ -26,9 +26,9 @@ pub fn from_bits(bits: u64) -> u16
 pub fn from_f64(x: f64) -> u16
     ensures { FromF64 x result }
 {
-    if x != x {
+    if x.is_nan() {
         0x8000
     } else {
-        from_bits(f64::to_bits(x))
+        from_bits(x.to_bits())
     }
 }

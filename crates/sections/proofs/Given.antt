@@ -2,17 +2,18 @@
 use Prim.Native.Nat.{ℕ, ◌+◌}
 use mathlib.Core.Bool.{not, ◌||◌}
 use mathlib.Core.List.{List}
+use Rattle.std.specs.Prelude.{Option, Some, None}
 use lib.ListN.{length}
 use lib.Dec.{ltb}
 use Rattle.refusals.specs.declared.Refusal.{Refusal}
-use Rattle.refusals.specs.declared.Refusal.TheVariants.{None, Function, Cut, Limits}
+use Rattle.refusals.specs.declared.Refusal.TheVariants.{Function, Cut, Limits}
 use Rattle.refusals.specs.Refusals.{◌before◌, refused_when}
 use Rattle.refusals.proofs.Refusing.{before_keeps, when_keeps}
 use Rattle.words.specs.Numbers.{number_at_of}
 use Rattle.sections.specs.Sections.{past_section, functions_of}
 use Rattle.sections.specs.Order.{most_functions, most_patterns, section_refusal_of, all_known_of, sections_refusal}
 
-module _ (P : Refusal → Type 0) (none : P None) (cut : P Cut) (limits : P Limits) where
+module _ (P : Option Refusal → Type 0) (none : P None) (cut : P (Some Cut)) (limits : P (Some Limits)) where
   section_keeps : (b : List ℕ) (at least most : ℕ) → P (section_refusal_of b at least most)
   unfolding section_refusal_of
   section_keeps b at least most =
@@ -23,7 +24,7 @@ module _ (P : Refusal → Type 0) (none : P None) (cut : P Cut) (limits : P Limi
       before_keeps P (refused_when outside Limits) numbers (when_keeps P outside Limits none limits) (λ _.
       when_keeps P (ltb (length b) (past_section b at)) Cut none cut))
 
-  pub sections_keep : P Function → (b : List ℕ) → P (sections_refusal b)
+  pub sections_keep : P (Some Function) → (b : List ℕ) → P (sections_refusal b)
   unfolding sections_refusal
   sections_keep function b =
       let functions = section_refusal_of b 0 1 most_functions in

@@ -3,12 +3,13 @@ use Prim.Native.Nat.{ℕ, zero, suc, ◌+◌, ◌*◌, ◌≤◌}
 use mathlib.Core.Path.{◌≡◌, refl, sym, ap, ◌∙◌}
 use mathlib.Core.Bool.{Bool, true, false, false≢true}
 use mathlib.Core.List.{List, ◌++◌}
+use Rattle.std.specs.Prelude.{Option, is_none}
 use native.Mathlib.Omega.{arith}
 use borrow.Author.Tests.{ltb-true, ltb-false}
 use lib.ListN.{length, length-append, get_or-append}
 use lib.Dec.{ltb}
 use Rattle.refusals.specs.declared.Refusal.{Refusal}
-use Rattle.refusals.specs.Refusals.{is_none, is_cut}
+use Rattle.refusals.specs.Refusals.{is_cut}
 use Rattle.words.specs.Numbers.{number_at_of, numbers_at}
 use Rattle.sections.specs.Sections.{past_section, functions_of, past_patterns}
 use Rattle.sections.specs.Order.{most_functions, most_patterns, section_refusal_of, all_known_of, sections_refusal}
@@ -52,7 +53,7 @@ module _ (b p : List ℕ) where
           present = omega (arith, n, longer, w.present);
         }
 
-    cut_off : {r : Refusal} → section_refusal_of b at least most ≡ r → is_cut (section_refusal_of b at least most) ≡ false → is_cut r ≡ true → ⊥
+    cut_off : {r : Option Refusal} → section_refusal_of b at least most ≡ r → is_cut (section_refusal_of b at least most) ≡ false → is_cut r ≡ true → ⊥
     cut_off e h k = false≢true (sym h ∙ ap is_cut e ∙ k)
 
     pub section-grows : is_cut (section_refusal_of b at least most) ≡ false → section_refusal_of (b ++ p) at least most ≡ section_refusal_of b at least most

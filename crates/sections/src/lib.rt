@@ -2,79 +2,58 @@
 #![tactic(auto)]
 
 ghost use Rattle.std.specs.Prelude.{◌≡◌, ◌+◌, ◌*◌, ◌≤◌, length};
-ghost use Rattle.words.specs.Numbers.{numbers_at};
+ghost use Rattle.refusals.specs.Refusals.{unless_refused};
+ghost use Rattle.words.specs.Numbers.{number_at_of, numbers_at};
 ghost use Rattle.sections.specs.Order.{section_refusal_of, all_known_of, sections_of};
 
-use refusals::{Refusal, number};
+use refusals::Refusal;
 use words::number_at;
 
 const MOST_FUNCTIONS: u16 = 10;
 
 const MOST_PATTERNS: u16 = 1024;
 
-// How many functions and patterns there are, none of either where the sections are refused, and the first refusal of the two
-// sections. Bytes after them are not looked at.
-#[derive(Clone, Copy)]
+// How many functions and patterns there are.
+#[derive(Clone, Copy, Debug, PartialEq, Eq)]
 pub struct Sections {
     pub functions: usize,
     pub patterns: usize,
-    pub refusal: Refusal,
 }
 
-pub fn read_sections(bytes: &[u8]) -> Sections
+// The two sections, or the first refusal in them. Bytes after them are not looked at.
+pub fn read_sections(bytes: &[u8]) -> Result<Sections, Refusal>
     ensures { result ≡ sections_of bytes.now }
 {
-    let first = section_refusal(bytes, 0, 1, MOST_FUNCTIONS);
-    if number(first) != 0 {
-        return refused(first);
-    }
-    let functions = number_at(bytes, 0) as usize;
+    let functions = read_count(bytes, 0, 1, MOST_FUNCTIONS)?;
     if !all_known(bytes, functions) {
-        return refused(Refusal::Function);
+        return Err(Refusal::Function);
     }
-    let at = 2 + 2 * functions;
-    let second = section_refusal(bytes, at, 0, MOST_PATTERNS);
-    if number(second) != 0 {
-        return refused(second);
-    }
-    Sections {
+    let patterns = read_count(bytes, 2 + 2 * functions, 0, MOST_PATTERNS)?;
+    Ok(Sections {
         functions,
-        patterns: number_at(bytes, at) as usize,
-        refusal: Refusal::None,
-    }
+        patterns,
+    })
 }
 
-// What a reader returns where it refuses.
-pub fn refused(refusal: Refusal) -> Sections
-    ensures { result ≡ record { functions = 0; patterns = 0; refusal = refusal } }
-{
-    Sections {
-        functions: 0,
-        patterns: 0,
-        refusal,
-    }
-}
-
-// The first refusal of the section whose count stands at the place `at`.
-fn section_refusal(bytes: &[u8], at: usize, least: u16, most: u16) -> Refusal
+// How many numbers the section has whose count stands at the place `at`.
+#[tactic(auto, unfolding(crate::specs::Order::section_refusal_of))]
+fn read_count(bytes: &[u8], at: usize, least: u16, most: u16) -> Result<usize, Refusal>
     requires { at ≤ length bytes.now }
-    ensures { result ≡ section_refusal_of bytes.now at least most }
+    ensures { result ≡ unless_refused (section_refusal_of bytes.now at least most) (number_at_of bytes.now at) }
 {
     if bytes.len() - at < 2 {
-        return Refusal::Cut;
+        return Err(Refusal::Cut);
     }
     let count = number_at(bytes, at);
-    if count < least {
-        return Refusal::Limits;
+    if !(least..=most).contains(&count) {
+        return Err(Refusal::Limits);
     }
-    if most < count {
-        return Refusal::Limits;
-    }
+    let count = usize::from(count);
     let start = at + 2;
-    if bytes.len() - start < 2 * (count as usize) {
-        return Refusal::Cut;
+    if bytes.len() - start < 2 * count {
+        return Err(Refusal::Cut);
     }
-    Refusal::None
+    Ok(count)
 }
 
 // Whether the first `count` functions are all known.
@@ -82,12 +61,5 @@ fn all_known(bytes: &[u8], count: usize) -> bool
     requires { 2 + 2 * count ≤ length bytes.now }
     ensures { result ≡ all_known_of (numbers_at bytes.now 2 count) }
 {
-    let mut i: usize = 0;
-    while i < count {
-        if !p16e1::is_known(number_at(bytes, 2 + 2 * i)) {
-            return false;
-        }
-        i += 1;
-    }
-    true
+    (0..count).all(|i| p16e1::is_known(number_at(bytes, 2 + 2 * i)))
 }

@@ -3,14 +3,13 @@
 -- span is zero alone, 0x0001's starts at 0 with 0 not included, 0x7FFF's has no upper end, and the negative patterns mirror
 -- these. The pair now also says for each edge whether it is included and whether it exists; a missing or zero edge holds +0.0,
 -- and a missing one is not included."
-use Rattle.std.specs.Prelude.{◌≡◌, ℕ, ◌+◌, ◌-◌, ◌*◌, ◌%◌, ◌^◌, cond, ◌==◌, ◌≢◌, Float}
+use Rattle.std.specs.Prelude.{◌≡◌, ℕ, ◌+◌, ◌-◌, ◌*◌, ◌%◌, ◌^◌, cond, ◌==◌, ◌≢◌, Float, Option, Some, None}
 use Rattle.posit.specs.Number.{number}
 use Rattle.real.specs.Reals.{Holds}
 use Rattle.spans.specs.declared.edges.Edge.{Edge}
 use Rattle.spans.specs.declared.edges.Edge.TheVariants.{Missing, Excluded, Included}
 use Rattle.spans.specs.declared.edges.Place.{Place}
-use Rattle.spans.specs.declared.SpanAnswer.{SpanAnswer}
-use Rattle.spans.specs.declared.SpanAnswer.TheVariants.{Edges, NaR}
+use Rattle.spans.specs.declared.Span.{Span}
 
 -- the patterns of 17 bits next below and next above v
 abbrev pub below : ℕ → ℕ
@@ -45,9 +44,9 @@ abbrev pub Stands : Place → Float → Edge → Type 0
 Stands a x e = Holds 30 (number 1 17 a.posit) x × (e ≡ a.edge)
 
 -- what each case of the answer says of the pattern p
-abbrev pub SpanOf : ℕ → SpanAnswer → Type 0
-SpanOf p (Edges s) = (p ≢ 0x8000) × Stands (lower_place p) s.lower s.start × Stands (upper_place p) s.upper s.end
-SpanOf p NaR = p ≡ 0x8000
+abbrev pub SpanOf : ℕ → Option Span → Type 0
+SpanOf p (Some s) = (p ≢ 0x8000) × Stands (lower_place p) s.lower s.start × Stands (upper_place p) s.upper s.end
+SpanOf p None = p ≡ 0x8000
 
 -- how a span stands at an edge, in two bits: 1 "exists", 2 "included"
 abbrev pub edge_bits_of : Edge → ℕ

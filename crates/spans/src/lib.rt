@@ -20,13 +20,6 @@ pub struct Span {
     pub end: Edge,
 }
 
-// A span, or NaR, which has none.
-#[derive(Clone, Copy)]
-pub enum SpanAnswer {
-    Edges(Span),
-    NaR,
-}
-
 // The magnitude in the 17-bit pattern v, in units of 2^-30. With a run of two zeros or more it is that in the same bits read
 // as a 16-bit pattern, in units of that, and with a run of two ones or more 16 times that in the pattern with a 1 less.
 // After a run of one bit the exponent is bit 13, and the fraction stands below it.
@@ -64,21 +57,20 @@ fn number_17(v: u32) -> f64
     -magnitude_of((0x20000 - v) as u16)
 }
 
-pub fn span_of(p: u16) -> SpanAnswer
+// None for NaR, which has no span.
+pub fn span_of(p: u16) -> Option<Span>
     ensures { SpanOf p result }
 {
     if p == 0x8000 {
-        return SpanAnswer::NaR;
+        return None;
     }
     let v = 2 * (p as u32);
     let low = place_of(p, 0x0001, 0x8001, (v + 0x1ffff) % 0x20000);
     let high = place_of(p, 0xffff, 0x7fff, v + 1);
-    let start = low.edge;
-    let end = high.edge;
-    SpanAnswer::Edges(Span {
+    Some(Span {
         lower: number_17(low.posit),
         upper: number_17(high.posit),
-        start,
-        end,
+        start: low.edge,
+        end: high.edge,
     })
 }

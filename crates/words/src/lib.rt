@@ -9,65 +9,29 @@ ghost use Rattle.words.specs.Numbers.{bytes_of, number_at_of};
 pub fn number_at(bytes: &[u8], at: usize) -> u16
     ensures { result ≡ number_at_of bytes.now at }
 {
-    if bytes.len() < 2 {
-        return cut_number_at(bytes, at);
+    match bytes.get(at..) {
+        Some([low, high, ..]) => u16::from_le_bytes([*low, *high]),
+        Some([low]) => u16::from(*low),
+        _ => 0,
     }
-    if bytes.len() - 2 < at {
-        return cut_number_at(bytes, at);
-    }
-    let next = at + 1;
-    bytes[at] as u16 + 256 * (bytes[next] as u16)
-}
-
-// The same where the bytes end before the number does.
-fn cut_number_at(bytes: &[u8], at: usize) -> u16
-    requires { length bytes.now < at + 2 }
-    ensures { result ≡ number_at_of bytes.now at }
-{
-    if bytes.len() <= at {
-        return 0;
-    }
-    bytes[at] as u16
 }
 
 // Writes a number into the two bytes at the place `at`.
 pub fn put_number(output: &mut [u8], at: usize, number: u16)
     ensures { output.new ≡ sets output.old at (bytes_of number) }
 {
-    if output.len() < 2 {
-        return put_cut_number(output, at, number);
+    let bytes = number.to_le_bytes();
+    match output.len().saturating_sub(at) {
+        0 => {}
+        1 => output[at] = bytes[0],
+        _ => output[at..at + 2].copy_from_slice(&bytes),
     }
-    if output.len() - 2 < at {
-        return put_cut_number(output, at, number);
-    }
-    let next = at + 1;
-    output[at] = (number % 256) as u8;
-    output[next] = (number / 256) as u8;
-}
-
-// The same where the output ends before the number does.
-fn put_cut_number(output: &mut [u8], at: usize, number: u16)
-    requires { length output.old < at + 2 }
-    ensures { output.new ≡ sets output.old at (bytes_of number) }
-{
-    if output.len() <= at {
-        return;
-    }
-    let low = (number % 256) as u8;
-    output[at] = low;
 }
 
 // Writes the bytes of `input` into the first places of `output`, as many as there are.
-#[tactic(auto, using(crate::proofs::Writing::sets_enough))]
 pub fn copy(input: &[u8], output: &mut [u8])
     ensures { output.new ≡ sets output.old 0 input.now }
 {
-    let mut i: usize = 0;
-    while i < input.len() {
-        if output.len() <= i {
-            return;
-        }
-        output[i] = input[i];
-        i += 1;
-    }
+    let count = input.len().min(output.len());
+    output[..count].copy_from_slice(&input[..count]);
 }
