@@ -19,7 +19,6 @@ pub mod Nearest
 pub mod Regimes
 pub mod Between
 pub mod Words
-pub mod Apart
 pub mod Tops
 pub mod Far
 pub mod Fractions

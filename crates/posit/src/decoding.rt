@@ -27,15 +27,15 @@ struct Fields {
 // by itself, the 1 in front; twice the word has lost it, and has a 1 at its end, where the count stops at the latest.
 fn run_length(w: u64) -> u32
     requires { (2 ^ 49 ≤ w) × (w % 2 ^ 49 ≡ 0) }
-    ensures value { result ≡ run (bit 63 w) 15 (w / 2 ^ 49) }
-    ensures lower_bound { (1 ≤ result) × (result ≤ (if nat_le (2 ^ 63) w then 15 else 14)) }
+    ensures counted { result ≡ run (bit 63 w) 15 (w / 2 ^ 49) }
+    ensures bounds { (1 ≤ result) × (result ≤ (if nat_le (2 ^ 63) w then 15 else 14)) }
 {
     let zeros = if w < 0x8000_0000_0000_0000 {
         w
     } else {
-        0xFFFF_FFFF_FFFF_FFFF - w
+        !w
     };
-    1 + u64::leading_zeros(2 * zeros + 1)
+    1 + (2 * zeros + 1).leading_zeros()
 }
 
 // The regime of a run of m bits, counted from the smallest: r is m - 1 for ones and -m for zeros, and each step of r is two.
@@ -43,21 +43,21 @@ fn regime_of(ones: bool, m: u32) -> u32
     requires { (1 ≤ m) × (m ≤ (if ones then 15 else 14)) }
     ensures { result ≡ regime 1 16 (if ones then 1 else 0) m }
 {
-    let r = if ones { m as i32 - 1 } else { 0 - m as i32 };
+    let r = if ones { m as i32 - 1 } else { -(m as i32) };
     (28 + 2 * r) as u32
 }
 
 // The fields of a pattern. The sign bit is left out, and zero is taken for 1.
 fn fields_of(p: u16) -> Fields
     ensures decodes { Decodes p (result.regime + result.bits / 2 ^ 63) (result.bits / 2 ^ 51 % 4096) }
-    ensures bits_value { result.bits % 2 ^ 51 ≡ 0 }
+    ensures below_clear { result.bits % 2 ^ 51 ≡ 0 }
 {
     let q = (p % 0x8000) as u64;
-    let w = (if q == 0 { 1 } else { q }) << 49;
+    let w = q.max(1) << 49;
     let m = run_length(w);
     Fields {
         regime: regime_of(0x8000_0000_0000_0000 <= w, m),
-        bits: (w << (m - 1)) << 2,
+        bits: w << (m - 1) << 2,
     }
 }
 

@@ -8,5 +8,5 @@ mod sign;
 
 pub use decoding::{Decoded, decode, units};
 pub use rounding::{round, round_sided};
-pub use side::{Side, Sided, outright, side_number, signed_sided};
+pub use side::{Side, Sided, outright, signed_sided};
 pub use sign::{opposite, signed};

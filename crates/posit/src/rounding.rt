@@ -2,8 +2,6 @@
 ghost use Rattle.std.specs.Prelude.{◌≡◌, ◌+◌, ◌-◌, ◌*◌, ◌/◌, ◌%◌, ◌^◌, ◌<◌, ◌≤◌, ◌||◌, ltb, pos, ◌+ℤ◌, if◌then◌else◌, int_lt, nat_lt, unsigned_abs};
 ghost use Rattle.std.specs.Int.Signed.{mag};
 ghost use Rattle.std.specs.Float.Ieee.{up, down};
-ghost use Rattle.std.specs.Int.{w64};
-ghost use Rattle.std.proofs.Common.{of_z};
 ghost use Rattle.posit.specs.Rounding.{ratio, dyadic, plus, Rounds};
 ghost use Rattle.posit.specs.Sides.{RoundsSided};
 ghost use Rattle.posit.specs.declared.side.Side.TheVariants.{Below, On, Above};
@@ -15,22 +13,7 @@ fn run_after(p: i32) -> u32
     ensures { result ≡ mag p / 2 }
 {
     let half = p >> 1;
-    if half < 0 {
-        (-1 - half) as u32
-    } else {
-        half as u32
-    }
-}
-
-// The bits of a signed word.
-fn bits_of(w: i64) -> u64
-    ensures { result ≡ of_z w64 w }
-{
-    if w < 0 {
-        0x8000_0000_0000_0000 + (w - i64::MIN) as u64
-    } else {
-        w as u64
-    }
+    if half < 0 { !half as u32 } else { half as u32 }
 }
 
 // The pattern of 17 bits with the regime of p and x after it, 48 places up. Before x stand 01, or 10 where p is not below zero:
@@ -45,7 +28,7 @@ fn laid_out(p: i32, k: u32, x: u64) -> u64
     } else {
         i64::MIN
     };
-    bits_of((start + x as i64) >> k)
+    ((start + x as i64) >> k).cast_unsigned()
 }
 
 // f / 2^63 * 2^p, for f with its top bit set and p from -28 to 27; rest tells whether anything stands in f's lowest 15 bits,
@@ -62,9 +45,10 @@ fn place(f: u64, p: i32, rest: bool) -> Sided
     let v = laid_out(p, k, x);
     let more = if rest { 1 } else { (v >> 49) % 2 };
     let u = (v + 0xFFFF_FFFF_FFFF + more) >> 49;
-    let side = side_of(u << 49, v, rest);
-    let pattern = u as u16;
-    Sided { pattern, side }
+    Sided {
+        pattern: u as u16,
+        side: side_of(u << 49, v, rest),
+    }
 }
 
 // Where an answer lies, by its pattern and the number's, both of 64 bits; rest tells whether the number is more than its pattern.
@@ -72,12 +56,12 @@ fn side_of(answer: u64, v: u64, rest: bool) -> Side
     ensures { result ≡ (if ltb v answer then Above else (if ltb answer v || rest then Below else On)) }
 {
     if v < answer {
-        return Side::Above;
+        Side::Above
+    } else if answer < v || rest {
+        Side::Below
+    } else {
+        Side::On
     }
-    if answer < v {
-        return Side::Below;
-    }
-    if rest { Side::Below } else { Side::On }
 }
 
 // Whether anything stands in the lowest 15 bits of f, which is m shifted up: not where m has at most 49 bits, as the compiler
@@ -86,11 +70,7 @@ fn below(m: u64, f: u64) -> bool
     requires { m < 2 ^ 49 → f % 2 ^ 15 ≡ 0 }
     ensures { result ≡ nat_lt 0 (f % 2 ^ 15) }
 {
-    if m < 0x2_0000_0000_0000 {
-        false
-    } else {
-        0 < f % 0x8000
-    }
+    0x2_0000_0000_0000 <= m && 0 < f % 0x8000
 }
 
 // e counted from -200, and held between 0 and 400: beyond these the answers are the smallest and the largest posit.
@@ -99,13 +79,7 @@ fn offset(e: i32) -> u32
     ensures at_least { 0 < result → 2 ^ result * down e ≤ up e * 2 ^ 200 }
     ensures held { result ≤ 400 }
 {
-    if e < -200 {
-        return 0;
-    }
-    if 200 < e {
-        return 400;
-    }
-    (e + 200) as u32
+    (e.clamp(-200, 200) + 200) as u32
 }
 
 // The posit that the rounding rule gives for m * 2^e, and where it lies. p is the number's power of two, or past -29 and 28 on
@@ -117,13 +91,11 @@ pub fn round_sided(m: u64, e: i32) -> Sided
     if m == 0 {
         return crate::side::outright(0);
     }
-    let z = u64::leading_zeros(m);
+    let z = m.leading_zeros();
     let p = offset(e) as i32 - 137 - z as i32;
     let f = m << z;
-    if -29 < p {
-        if p < 28 {
-            return place(f, p, below(m, f));
-        }
+    if -29 < p && p < 28 {
+        return place(f, p, below(m, f));
     }
     if p < 0 {
         return Sided {
@@ -131,10 +103,8 @@ pub fn round_sided(m: u64, e: i32) -> Sided
             side: Side::Above,
         };
     }
-    if p < 29 {
-        if f == 0x8000_0000_0000_0000 {
-            return crate::side::outright(0x7fff);
-        }
+    if p < 29 && f == 0x8000_0000_0000_0000 {
+        return crate::side::outright(0x7fff);
     }
     Sided {
         pattern: 0x7fff,
@@ -146,6 +116,5 @@ pub fn round_sided(m: u64, e: i32) -> Sided
 pub fn round(m: u64, e: i32) -> u16
     ensures { Rounds 1 16 (dyadic (pos m) e) result }
 {
-    let a = round_sided(m, e);
-    a.pattern
+    round_sided(m, e).pattern
 }

@@ -2,7 +2,7 @@
 ghost use Rattle.std.specs.Prelude.{◌≡◌, if◌then◌else◌};
 ghost use Rattle.posit.specs.Sides.{mirrored, outright, negated_sided, side_number_of};
 
-#[derive(Clone, Copy)]
+#[derive(Clone, Copy, Debug, PartialEq, Eq)]
 pub enum Side {
     Below,
     On,
@@ -10,7 +10,7 @@ pub enum Side {
 }
 
 // An answer, and where it lies.
-#[derive(Clone, Copy)]
+#[derive(Clone, Copy, Debug, PartialEq, Eq)]
 pub struct Sided {
     pub pattern: u16,
     pub side: Side,
@@ -42,22 +42,24 @@ pub fn signed_sided(negative: bool, a: Sided) -> Sided
     ensures { result ≡ (if negative then negated_sided a else a) }
 {
     if negative {
-        let side = a.side;
-        return Sided {
+        Sided {
             pattern: crate::sign::opposite(a.pattern),
-            side: mirror(side),
-        };
+            side: mirror(a.side),
+        }
+    } else {
+        a
     }
-    a
 }
 
 // -1 below, 0 on, 1 above.
-pub fn side_number(side: Side) -> i8
-    ensures { result ≡ side_number_of side }
-{
-    match side {
-        Side::Below => -1,
-        Side::On => 0,
-        Side::Above => 1,
+impl From<Side> for i8 {
+    ghost from_gives = { λ side n. n ≡ side_number_of side };
+
+    fn from(side: Side) -> i8 {
+        match side {
+            Side::Below => -1,
+            Side::On => 0,
+            Side::Above => 1,
+        }
     }
 }

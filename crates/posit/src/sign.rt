@@ -7,7 +7,7 @@ ghost use Rattle.posit.specs.Number.{opposite};
 pub fn opposite(p: u16) -> u16
     ensures { result ≡ opposite 16 p }
 {
-    std::num::wrapping_sub_u16(0, p)
+    0u16.wrapping_sub(p)
 }
 
 // The opposite of p where negative is true, and p itself where it is not.

@@ -28,16 +28,16 @@ counted w z fits some turned =
     rw (b, le-leb (2 ^ 63) w (omega arith)) (omega (arith, t.1), (omega arith, omega (arith, t.1))))
     turned
 
-pub returns-clause-value : goal.returns-clause-value
-returns-clause-value c =
+pub returns-clause-counted : goal.returns-clause-counted
+returns-clause-counted c =
     (counted c.args.w c.if-w-lt9223372036854775808.zeros (omega arith) (omega arith)
     (elim c.if-w-lt9223372036854775808.branch [
       | then-w-lt9223372036854775808 w ↦ inl (omega arith, omega arith)
       | else-w-lt9223372036854775808 w ↦ inr (omega arith, omega arith, omega arith)
     ])).0
 
-pub returns-clause-lower_bound : goal.returns-clause-lower_bound
-returns-clause-lower_bound c =
+pub returns-clause-bounds : goal.returns-clause-bounds
+returns-clause-bounds c =
     (counted c.args.w c.if-w-lt9223372036854775808.zeros (omega arith) (omega arith)
     (elim c.if-w-lt9223372036854775808.branch [
       | then-w-lt9223372036854775808 w ↦ inl (omega arith, omega arith)

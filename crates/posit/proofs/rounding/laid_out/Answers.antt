@@ -63,7 +63,7 @@ returns c =
       | then-p-lt0 w ↦ rw (w.start-is, read ∙ w.if-p-lt0.true) (after_01 k x (omega arith) (omega arith))
       | else-p-lt0 w ↦ rw (w.start-is, read ∙ w.if-p-lt0.false) (after_10 k x (omega arith) (omega arith))
     ] in
-    c.bits_of.ensures
+    c.cast_unsigned.ensures
     ∙ ap (λ (y : ℤ). of_z w64 (to_z w64 (of_z w64 (shr_z y (2 ^ k))))) (to_z-of_z w.fits)
     ∙ ap (of_z w64) (to_z-of_z {w = w64} {z = shr_z z (2 ^ k)} (record { sfits = lt_of_le_of_lt (mag_shr z (2 ^ k)) w.fits.sfits }))
     ∙ w.bits

@@ -1,53 +1,42 @@
 -- `posit::rounding::place` meets its contract: nothing wraps, and what is added is that of `Words`, by what stands in the
 -- lowest 15 bits; so is the side, by the wide pattern and the answer.
-use Rattle.std.proofs.Common.{◌≡◌, ℕ, suc, ◌+◌, ◌-◌, ◌*◌, ◌/◌, ◌%◌, ◌^◌, ◌<◌, ◌≤◌, cond, ◌||◌, Bool, true, false, ltb, ℤ, pos, negsuc, ◌+ℤ◌, nat_abs, sym, refl, ap, ◌∙◌, mod-eq_of_lt, arith, to_z-of_z, w32, FitsSigned, to_z, of_z, ltb-false, ltb-true, le-ltb}
+use Rattle.std.proofs.Common.{◌≡◌, ℕ, ◌+◌, ◌-◌, ◌*◌, ◌/◌, ◌%◌, ◌^◌, ◌<◌, ◌≤◌, cond, ◌||◌, Bool, true, false, ltb, ℤ, pos, negsuc, ◌+ℤ◌, nat_abs, sym, ap, ◌∙◌, mod-eq_of_lt, arith, to_z-of_z, w32, FitsSigned, to_z, of_z, ltb-false, ltb-true}
 use mathlib.Core.Path.{subst⁻¹}
 use lib.Signed.{mag, lt_z}
 use mir.Facts.{Fits-of_lt}
 use Rattle.posit.specs.Rounding.{ratio, Rounded}
 use Rattle.posit.specs.Sides.{stands, lies}
 use Rattle.posit.specs.declared.side.Side.TheVariants.{Below, On, Above}
+use Rattle.std.proofs.lemmas.Int.{ints}
 use Rattle.posit.proofs.Regimes.{Layout, laid}
 use Rattle.posit.proofs.Words.{wide, wide-most, clear, gathered, side-is}
 use Rattle.posit.proofs.rounding.place.Goals as goal
 use Rattle.posit.proofs.rounding.place.Goals.{then-rest, else-rest}
 
 -- p + 30, which is above zero, as it is read
-raised : (p : ℤ) → mag p ≤ 27 → (p +ℤ pos 30 ≡ pos (nat_abs (p +ℤ pos 30))) × (nat_abs (p +ℤ pos 30) ≤ 57)
-raised (pos j) h = (refl, omega arith)
-raised (negsuc j) h = rw (le-ltb 30 (suc j) (omega arith)) (refl, omega arith)
+raised : (p : ℤ) → mag p ≤ 27 → nat_abs (to_z w32 (of_z w32 (p +ℤ pos 30))) ≡ nat_abs (p +ℤ pos 30)
+raised (pos j) h = omega (arith, ints)
+raised (negsuc j) h = omega (arith, ints)
 
--- an argument that is signed goes by its bits; v is the wide pattern as the code computes it
-module _ (f : ℕ) (p : ℤ) (k v : ℕ) (top : 2 ^ 63 ≤ f) (fits : f < 2 ^ 64) (near : mag p ≤ 27) (fit : FitsSigned w32 p)
+-- v is the wide pattern as the code computes it; an argument that is signed goes by its bits
+module _ {f : ℕ} {p : ℤ} {k v : ℕ} (top : 2 ^ 63 ≤ f) (fits : f < 2 ^ 64) (near : mag p ≤ 27) (fit : FitsSigned w32 p)
     (run : k ≡ mag (to_z w32 (of_z w32 p)) / 2)
     (read : v ≡ cond (lt_z (to_z w32 (of_z w32 p)) (pos 0)) (2 ^ (14 - k)) (2 ^ 16 - 2 ^ (15 - k)) * 2 ^ 48
     + ((f - 2 ^ 63) / 4 + nat_abs (to_z w32 (of_z w32 (to_z w32 (of_z w32 p) +ℤ pos 30))) % 2 * 2 ^ 61) / 2 ^ k) where
   abbrev s : ℕ
   s = nat_abs (p +ℤ pos 30)
 
-  p-read : to_z w32 (of_z w32 p) ≡ p
-  p-read = to_z-of_z fit
-
   run_is : k ≡ mag p / 2
-  run_is = run ∙ ap (λ (z : ℤ). mag z / 2) p-read
+  run_is = rw (to_z-of_z fit) at run
 
   few : k ≤ 13
   few = let e = run_is in omega arith
-
-  sum-read : to_z w32 (of_z w32 p) +ℤ pos 30 ≡ pos s
-  sum-read = ap (λ (z : ℤ). z +ℤ pos 30) p-read ∙ (raised p near).0
-
-  sum_fits : FitsSigned w32 (to_z w32 (of_z w32 p) +ℤ pos 30)
-  sum_fits = subst⁻¹ (λ (z : ℤ). FitsSigned w32 z) sum-read (record { sfits = omega (arith, (raised p near).1) })
-
-  power-read : to_z w32 (of_z w32 (to_z w32 (of_z w32 p) +ℤ pos 30)) ≡ pos s
-  power-read = to_z-of_z sum_fits ∙ sum-read
 
   abbrev b : ℕ
   b = cond (lt_z p (pos 0)) (2 ^ (14 - k)) (2 ^ 16 - 2 ^ (15 - k))
 
   layout : Layout (s / 2) (14 - k) b
-  layout = subst⁻¹ (λ (j : ℕ). Layout (s / 2) (14 - j) (cond (lt_z p (pos 0)) (2 ^ (14 - j)) (2 ^ 16 - 2 ^ (15 - j)))) run_is (laid p near)
+  layout = rw run_is (laid p near)
 
   tail : k + (14 - k) ≡ 14
   tail = omega (arith, few)
@@ -56,10 +45,7 @@ module _ (f : ℕ) (p : ℤ) (k v : ℕ) (top : 2 ^ 63 ≤ f) (fits : f < 2 ^ 64
   pattern = wide f s (14 - k) b top fits layout k tail
 
   wide_read : v ≡ pattern
-  wide_read =
-      read
-      ∙ (λ i. cond (lt_z (p-read i) (pos 0)) (2 ^ (14 - k)) (2 ^ 16 - 2 ^ (15 - k)) * 2 ^ 48
-      + ((f - 2 ^ 63) / 4 + nat_abs (power-read i) % 2 * 2 ^ 61) / 2 ^ k)
+  wide_read = rw (to_z-of_z fit, raised p near) at read
 
   most : v < 65534 * 2 ^ 48
   most = let e = wide_read in let m = wide-most f s (14 - k) b top fits layout k tail in omega arith
@@ -90,11 +76,11 @@ module _ (f : ℕ) (p : ℤ) (k v : ℕ) (top : 2 ^ 63 ≤ f) (fits : f < 2 ^ 64
 
 pub overflow_add-u : goal.overflow_add-u
 overflow_add-u c =
-    Fits-of_lt (let m = most c.args.f c.args.p c.run_after-k.result c.laid_out-v.result c.requires.0 c.ranges.f.fits c.requires.1 c.ranges.p c.run_after-k.ensures c.laid_out-v.ensures in omega arith)
+    Fits-of_lt (let m = most c.requires.0 c.ranges.f.fits c.requires.1 c.ranges.p c.run_after-k.ensures c.laid_out-v.ensures in omega arith)
 
 pub overflow_add-u-2 : goal.overflow_add-u-2
 overflow_add-u-2 c =
-    Fits-of_lt (let m = most c.args.f c.args.p c.run_after-k.result c.laid_out-v.result c.requires.0 c.ranges.f.fits c.requires.1 c.ranges.p c.run_after-k.ensures c.laid_out-v.ensures in
+    Fits-of_lt (let m = most c.requires.0 c.ranges.f.fits c.requires.1 c.ranges.p c.run_after-k.ensures c.laid_out-v.ensures in
     let l : c.if-rest.more ≤ 1 = elim c.if-rest.branch [ then-rest w ↦ omega arith | else-rest w ↦ omega arith ] in omega arith)
 
 pub returns : goal.returns
@@ -103,7 +89,7 @@ returns c =
     let l = c.laid_out-v.ensures in
     let r : Rounded 1 16 (ratio (c.args.f * 2 ^ nat_abs (c.args.p +ℤ pos 30)) (2 ^ 93)) ((c.laid_out-v.result + 0xFFFF_FFFF_FFFF + c.if-rest.more) / 2 ^ 49) =
     elim c.if-rest.branch [
-      | then-rest w ↦ dropped c.args.f c.args.p c.run_after-k.result c.laid_out-v.result c.requires.0 c.ranges.f.fits c.requires.1 c.ranges.p e l c.args.rest c.if-rest.more c.requires.2 w.if-rest.true w.more-is
-      | else-rest w ↦ whole c.args.f c.args.p c.run_after-k.result c.laid_out-v.result c.requires.0 c.ranges.f.fits c.requires.1 c.ranges.p e l c.args.rest c.if-rest.more c.requires.2 w.if-rest.false w.more-is
+      | then-rest w ↦ dropped c.requires.0 c.ranges.f.fits c.requires.1 c.ranges.p e l c.args.rest c.if-rest.more c.requires.2 w.if-rest.true w.more-is
+      | else-rest w ↦ whole c.requires.0 c.ranges.f.fits c.requires.1 c.ranges.p e l c.args.rest c.if-rest.more c.requires.2 w.if-rest.false w.more-is
     ] in
-    (r, c.side_of-side.ensures ∙ side c.args.f c.args.p c.run_after-k.result c.laid_out-v.result c.requires.0 c.ranges.f.fits c.requires.1 c.ranges.p e l c.args.rest c.if-rest.more c.requires.2 r)
+    (r, c.side_of.ensures ∙ side c.requires.0 c.ranges.f.fits c.requires.1 c.ranges.p e l c.args.rest c.if-rest.more c.requires.2 r)
