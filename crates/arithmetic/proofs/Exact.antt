@@ -12,9 +12,6 @@ use lib.Pow.{pow_pos, pow-add}
 use lib.IntN.{ℤ, pos, negsuc, nat_abs, neg_ℤ, ◌+ℤ◌, ◌-ℤ◌, ◌*ℤ◌, zero-*ℤ}
 use lib.Signed.{mag, lt_z}
 use lib.Ieee.{unlike, up, down}
-use mir.Syntax.{w64}
-use mir.Val.{to_z, of_z}
-use mir.Facts.{to_z-of_z}
 use Rattle.posit.specs.Number.{Number, nar, real, number, magnitude, run, size, opposite, with_sign}
 use Rattle.posit.specs.Rounding.{Known, plus, dyadic, over, Rounds}
 use Rattle.posit.proofs.Compare.{ratio_same}
@@ -41,10 +38,6 @@ units_few zero h out = omega arith
 units_few (suc p) h out =
     rw (ne_eqb (suc p) 0 (λ e. omega arith))
     (let s = proper (suc p) (omega arith) h out in rw top at (no_larger (size 16 (suc p)) 0x7fff s.0 s.1 (lit≤ tt)))
-
--- in 64 bits a number of few digits is kept
-pub kept : (v : ℤ) → mag v ≤ 2 ^ 58 → to_z w64 (of_z w64 v) ≡ v
-kept v few = to_z-of_z {w = w64} {z = v} (record { sfits = omega (arith, few) })
 
 -- what rounds m * 2 ^ e, with a sign put before both
 pub rounds_signed : (b : Bool) (m : ℕ) (e : ℤ) (r : ℕ) → Rounds 1 16 (dyadic (pos m) e) r → Rounds 1 16 (dyadic (with_sign b m) e) (cond b (opposite 16 r) r)

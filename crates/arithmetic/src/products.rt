@@ -11,13 +11,15 @@ struct Parts {
     power: u32,
 }
 
-fn parts_of(p: u16) -> Parts
-    ensures { Scaled p result.significand result.power }
-{
-    let d = posit::decode(posit::signed(0x8000 < p, p));
-    Parts {
-        significand: if p == 0 { 0 } else { 4096 + d.fraction },
-        power: d.power,
+impl Parts {
+    fn of(p: u16) -> Parts
+        ensures { Scaled p result.significand result.power }
+    {
+        let d = posit::decode(posit::signed(0x8000 < p, p));
+        Parts {
+            significand: if p == 0 { 0 } else { 4096 + d.fraction },
+            power: d.power,
+        }
     }
 }
 
@@ -31,8 +33,8 @@ pub fn multiply(a: u16, b: u16) -> u16
     if b == 0x8000 {
         return b;
     }
-    let s = parts_of(a);
-    let t = parts_of(b);
+    let s = Parts::of(a);
+    let t = Parts::of(b);
     let m = (s.significand as u64) * (t.significand as u64);
     let e = ((s.power + t.power) % 128) as i32 - 80; // the remainder tells the compiler: it is small
     posit::signed((0x8000 < a) != (0x8000 < b), posit::round(m, e))

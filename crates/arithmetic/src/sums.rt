@@ -1,6 +1,6 @@
 // Negation, sums and differences. NaR with anything is NaR; of two reals the exact result is worked out in units of 2^-28 and
 // rounded once, by the one rounding rule. Zero goes the same way as the others.
-ghost use Rattle.std.specs.Prelude.{◌≡◌, ◌^◌, ◌≤◌, nat_abs};
+ghost use Rattle.std.specs.Prelude.{◌≡◌, ◌≢◌, ◌^◌, ◌≤◌};
 ghost use Rattle.std.specs.Int.Signed.{mag};
 ghost use Rattle.posit.specs.Number.{opposite};
 ghost use Rattle.posit.specs.Rounding.{over, Rounds};
@@ -10,9 +10,9 @@ ghost use Rattle.arithmetic.specs.Sizes.{signed_units};
 
 // p's number in units of 2^-28.
 fn units_of(p: u16) -> i64
-    requires { p ≡ 0x8000 → ⊥ }
+    requires { p ≢ 0x8000 }
     ensures value { result ≡ signed_units p }
-    ensures result_bound { mag result ≤ 2 ^ 56 }
+    ensures at_most { mag result ≤ 2 ^ 56 }
 {
     if p == 0 {
         return 0;
@@ -22,19 +22,11 @@ fn units_of(p: u16) -> i64
     if negative { -m } else { m }
 }
 
-fn magnitude_of(v: i64) -> u64
-    requires { mag v ≤ 2 ^ 58 }
-    ensures { result ≡ nat_abs v }
-{
-    if v < 0 { (-v) as u64 } else { v as u64 }
-}
-
 // The pattern of v units of 2^-28.
 fn round_units(v: i64) -> u16
-    requires { mag v ≤ 2 ^ 58 }
     ensures { Rounds 1 16 (over v 28) result }
 {
-    posit::signed(v < 0, posit::round(magnitude_of(v), -28))
+    posit::signed(v < 0, posit::round(v.unsigned_abs(), -28))
 }
 
 // Minus p's number, which is always a posit's.

@@ -3,15 +3,16 @@ use Prim.Native.Nat.{ℕ, ◌+◌, ◌*◌, ◌≤◌, ◌<◌}
 use mathlib.Core.Path.{◌≡◌, refl, sym, ap, ◌∙◌}
 use mathlib.Core.Bool.{Bool, true, false, cond, false≢true}
 use mathlib.Core.List.{List, ◌++◌}
+use Rattle.std.specs.Prelude.{Option, Some, None, is_none, Ok, Err}
 use native.Mathlib.Omega.{arith}
 use borrow.Author.Tests.{lt-ltb, le-ltb, ltb-false}
 use lib.ListN.{length, take, drop}
 use lib.Seq.{sets, take-add, take_all}
 use lib.Dec.{ltb}
 use Rattle.refusals.specs.declared.Refusal.{Refusal}
-use Rattle.refusals.specs.declared.Refusal.TheVariants.{None, Output, After}
+use Rattle.refusals.specs.declared.Refusal.TheVariants.{Output, After}
 use Rattle.words.specs.Numbers.{number_at_of}
-use Rattle.refusals.specs.Refusals.{is_none, ◌before◌, refused_when}
+use Rattle.refusals.specs.Refusals.{◌before◌, refused_when}
 use Rattle.sections.specs.Sections.{section, past_section, functions_of, patterns_of, past_patterns}
 use Rattle.sections.specs.Order.{sections_refusal}
 use Rattle.sections.proofs.Back.{Bytes, section_bytes}
@@ -28,16 +29,16 @@ pub record Accepted (b : List ℕ) (outputs : ℕ) : Type 0 where
   pub room : length (answered (functions_of b) (patterns_of b)) ≤ outputs
 
 module _ (b : List ℕ) (outputs : ℕ) where
-  pub sections_first : (r : Refusal) → r ≡ sections_refusal b → is_none r ≡ false → refusal_of b outputs ≡ r
+  pub sections_first : (r : Option Refusal) → r ≡ sections_refusal b → is_none r ≡ false → refusal_of b outputs ≡ r
   unfolding refusal_of
   sections_first r e n = rw (← e, n)
 
   module _ (s : Sound b) where
-    pub bytes_after : past_patterns b < length b → refusal_of b outputs ≡ After
+    pub bytes_after : past_patterns b < length b → refusal_of b outputs ≡ Some After
     unfolding refusal_of
     bytes_after h = rw (sound b s, lt-ltb (past_patterns b) (length b) h)
 
-    pub output-last : length b ≤ past_patterns b → outputs < length (answered (functions_of b) (patterns_of b)) → refusal_of b outputs ≡ Output
+    pub output-last : length b ≤ past_patterns b → outputs < length (answered (functions_of b) (patterns_of b)) → refusal_of b outputs ≡ Some Output
     unfolding refusal_of
     output-last h k = rw (sound b s, le-ltb (past_patterns b) (length b) h, lt-ltb outputs (length (answered (functions_of b) (patterns_of b))) k)
 
@@ -50,7 +51,7 @@ module _ (b : List ℕ) (outputs : ℕ) where
         le-ltb outputs (length (answered (functions_of b) (patterns_of b))) a.room,
       )
 
-parts : (r : Refusal) (s t : Bool) → is_none (r before refused_when s After before refused_when t Output) ≡ true → (is_none r ≡ true) × (s ≡ false) × (t ≡ false)
+parts : (r : Option Refusal) (s t : Bool) → is_none (r before refused_when s After before refused_when t Output) ≡ true → (is_none r ≡ true) × (s ≡ false) × (t ≡ false)
 parts r s t e = go (is_none r) refl s t e
   where
     go : (q : Bool) → is_none r ≡ q → (s t : Bool) → is_none (cond q (refused_when s After before refused_when t Output) r) ≡ true
@@ -68,19 +69,19 @@ accepted_of b outputs e =
     record { sections = sound_of b h.0; nothing_after = ltb-false (past_patterns b) (length b) h.1; room = ltb-false outputs size h.2 }
 
 -- the outcome of a refused call, and of one that is not
-pub refused_call : (b output : List ℕ) (r : Refusal) → refusal_of b (length output) ≡ r → is_none r ≡ false
-    → (record { written = 0; refusal = r } ≡ listed_of b (length output)) × (output ≡ output_of b output)
+pub refused_call : (b output : List ℕ) (r : Refusal) → refusal_of b (length output) ≡ Some r
+    → (Err r ≡ listed_of b (length output)) × (output ≡ output_of b output)
 unfolding writes
-refused_call b output r e n = (rw (e, n), rw (e, n))
+refused_call b output r e = (rw e, rw e)
 
 pub accepted_call : (b output : List ℕ) → Accepted b (length output)
     → let whole = answered (functions_of b) (patterns_of b) in
-    (listed_of b (length output) ≡ record { written = length whole; refusal = None }) × (output_of b output ≡ whole ++ drop (length whole) output)
+    (listed_of b (length output) ≡ Ok (length whole)) × (output_of b output ≡ whole ++ drop (length whole) output)
 unfolding writes
 accepted_call b output a = (rw (accepted b (length output) a), rw (accepted b (length output) a))
 
 pub accepted_result : (b output : List ℕ) (n : ℕ) → Accepted b (length output) → length (answered (functions_of b) (patterns_of b)) ≡ n
-    → record { written = n; refusal = None } ≡ listed_of b (length output)
+    → Ok n ≡ listed_of b (length output)
 accepted_result b output n a e = rw (← e) (sym (accepted_call b output a).0)
 
 -- bytes with sound sections begin with a listing, and are one where nothing stands after them

@@ -4,13 +4,12 @@ use Prim.Native.Nat.{ℕ, ◌+◌, ◌*◌, ◌≤◌}
 use mathlib.Core.Path.{◌≡◌, sym, ap, ◌∙◌, subst}
 use mathlib.Core.Bool.{true}
 use mathlib.Core.List.{List, [], ◌++◌, append_assoc, append-nil}
+use Rattle.std.specs.Prelude.{None, is_none, Result, Ok}
 use native.Mathlib.Omega.{arith}
 use native.Mathlib.Nat.{zero-add}
 use lib.ListN.{length, drop, length-append}
-use Rattle.refusals.specs.declared.Refusal.TheVariants.{None}
-use Rattle.listing.specs.declared.Listed.{Listed}
+use Rattle.refusals.specs.declared.Refusal.{Refusal}
 use Rattle.words.specs.Numbers.{number_at_of}
-use Rattle.refusals.specs.Refusals.{is_none}
 use Rattle.sections.specs.Sections.{section, section_at, past_section, functions_of, patterns_of, past_patterns}
 use Rattle.sections.specs.Order.{most_functions, most_patterns, all_known_of, sections_refusal}
 use Rattle.sections.proofs.Back.{Bytes, section_back, past_back}
@@ -22,10 +21,10 @@ use Rattle.listing.proofs.Counts.{length-listing}
 use Rattle.listing.proofs.Calls.{Accepted, accepted_of, accepted_call, is_listing}
 
 -- what the contract of `answer_listing` allows
-abbrev pub Allowed : List ℕ → List ℕ → Listed → List ℕ → Type 0
+abbrev pub Allowed : List ℕ → List ℕ → Result ℕ Refusal → List ℕ → Type 0
 Allowed b output r left = (r ≡ listed_of b (length output)) × (left ≡ output_of b output)
 
-pub one_outcome : (b output : List ℕ) (r r' : Listed) (left left' : List ℕ) → Allowed b output r left → Allowed b output r' left' → (r ≡ r') × (left ≡ left')
+pub one_outcome : (b output : List ℕ) (r r' : Result ℕ Refusal) (left left' : List ℕ) → Allowed b output r left → Allowed b output r' left' → (r ≡ r') × (left ≡ left')
 one_outcome b output r r' left left' h k = (h.0 ∙ sym k.0, h.1 ∙ sym k.1)
 
 -- functions and patterns that a listing may have
@@ -71,7 +70,7 @@ module _ (fs ps q : List ℕ) where
 
 -- a listing is answered where there is room
 pub is_answered : (fs ps output : List ℕ) → Listable fs ps → length (answered fs ps) ≤ length output
-    → (listed_of (listing fs ps) (length output) ≡ record { written = length (answered fs ps); refusal = None })
+    → (listed_of (listing fs ps) (length output) ≡ Ok (length (answered fs ps)))
     × (output_of (listing fs ps) output ≡ answered fs ps ++ drop (length (answered fs ps)) output)
 is_answered fs ps output l room =
     let b = listing fs ps in

@@ -5,3 +5,4 @@ pub mod Laws
 pub mod Long
 pub mod Room
 pub mod Prefix
+pub mod Reading

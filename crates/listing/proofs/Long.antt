@@ -3,9 +3,9 @@ use Prim.Native.Nat.{ℕ, ◌≤◌, ◌<◌}
 use mathlib.Core.Path.{◌≡◌, refl}
 use mathlib.Core.Bool.{Bool, true, false}
 use mathlib.Core.List.{List}
+use Rattle.std.specs.Prelude.{is_none}
 use native.Mathlib.Omega.{arith}
 use lib.ListN.{length}
-use Rattle.refusals.specs.Refusals.{is_none}
 use Rattle.sections.specs.Sections.{functions_of, patterns_of, past_patterns}
 use Rattle.sections.proofs.Counts.{length_functions, length_patterns, past_is}
 use Rattle.sections.proofs.Sound.{Sound}

@@ -3,12 +3,13 @@ use Prim.Native.Nat.{ℕ, ◌+◌, ◌≤◌, ◌<◌}
 use mathlib.Core.Path.{◌≡◌, refl, sym, ap, ◌∙◌}
 use mathlib.Core.Bool.{Bool, true, false, not}
 use mathlib.Core.List.{List}
+use Rattle.std.specs.Prelude.{Option, is_none}
 use native.Mathlib.Omega.{arith}
 use lib.ListN.{length, take, drop, take-append-drop}
 use lib.Seq.{length-take-le}
 use Rattle.refusals.specs.declared.Refusal.{Refusal}
 use Rattle.refusals.specs.declared.Refusal.TheVariants.{Function}
-use Rattle.refusals.specs.Refusals.{is_none, is_cut, ◌before◌, refused_when}
+use Rattle.refusals.specs.Refusals.{is_cut, ◌before◌, refused_when}
 use Rattle.refusals.proofs.Refusing.{before_keeps, when_keeps}
 use Rattle.words.specs.Numbers.{number_at_of}
 use Rattle.sections.specs.Sections.{past_section, functions_of}
@@ -25,7 +26,7 @@ use Rattle.listing.proofs.Long.{sound_short}
 pub long_decided : (b : List ℕ) → longest ≤ length b → is_cut (sections_refusal b) ≡ false
 unfolding sections_refusal
 long_decided b long =
-    let Decided : Refusal → Type 0 = λ r. is_cut r ≡ false in
+    let Decided : Option Refusal → Type 0 = λ r. is_cut r ≡ false in
     let functions = section_refusal_of b 0 1 most_functions in
     let patterns = section_refusal_of b (past_section b 0) 0 most_patterns in
     let unknown = not (all_known_of (functions_of b)) in

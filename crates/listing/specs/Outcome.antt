@@ -1,17 +1,16 @@
 -- "Listing: sections in order .. After both, 6, then 2." "a refused listing returns 0 bytes written" and does not change the
 -- output; "A call that succeeds changes only .. the first bytes of the answered length." What a call returns and leaves, for any
 -- bytes and any output.
-use Rattle.std.specs.Prelude.{ℕ, List, [], ◌∷◌, ◌++◌, cond, length, drop, ltb}
+use Rattle.std.specs.Prelude.{ℕ, List, [], ◌∷◌, ◌++◌, cond, length, drop, ltb, Option, is_none, Result, Ok, Err}
 use Rattle.refusals.specs.declared.Refusal.{Refusal}
 use Rattle.refusals.specs.declared.Refusal.TheVariants.{Output, After}
-use Rattle.refusals.specs.Refusals.{number_of, is_none, ◌before◌, refused_when}
+use Rattle.refusals.specs.Refusals.{number_of, ◌before◌, refused_when, unless_refused}
 use Rattle.words.specs.Numbers.{bytes_of}
 use Rattle.sections.specs.Sections.{functions_of, patterns_of, past_patterns}
 use Rattle.sections.specs.Order.{sections_refusal}
-use Rattle.listing.specs.declared.Listed.{Listed}
 use Rattle.listing.specs.Answered.{answered}
 
-unfoldable pub refusal_of : List ℕ → ℕ → Refusal
+unfoldable pub refusal_of : List ℕ → ℕ → Option Refusal
 refusal_of b outputs =
     sections_refusal b
     before refused_when (ltb (past_patterns b) (length b)) After
@@ -21,8 +20,14 @@ refusal_of b outputs =
 unfoldable pub writes : List ℕ → ℕ → List ℕ
 writes b outputs = cond (is_none (refusal_of b outputs)) (answered (functions_of b) (patterns_of b)) []
 
-abbrev pub listed_of : List ℕ → ℕ → Listed
-listed_of b outputs = record { written = length (writes b outputs); refusal = refusal_of b outputs }
+-- how many that are, unless the call is refused
+abbrev pub listed_of : List ℕ → ℕ → Result ℕ Refusal
+listed_of b outputs = unless_refused (refusal_of b outputs) (length (writes b outputs))
+
+-- "0 bytes written" where it is
+abbrev pub written_of : Result ℕ Refusal → ℕ
+written_of (Ok n) = n
+written_of (Err r) = 0
 
 abbrev pub output_of : List ℕ → List ℕ → List ℕ
 output_of b output = writes b (length output) ++ drop (length (writes b (length output))) output

@@ -8,64 +8,43 @@ ghost use Rattle.sections.specs.Order.{counted};
 ghost use Rattle.listing.specs.Outcome.{refusal_of, listed_of, output_of, reply_length, with_reply};
 
 use refusals::Refusal;
-use sections::Sections;
+use sections::{Sections, read_sections};
 
-// What a call did: how many bytes it wrote, and why it was refused, if it was.
-#[derive(Clone, Copy)]
-pub struct Listed {
-    pub written: usize,
-    pub refusal: Refusal,
-}
-
-// The sections of a listing, none where the listing call refuses these bytes with an output of so many places, and that refusal.
-pub fn read_listing(bytes: &[u8], outputs: usize) -> Sections
+// The sections of a listing, or the refusal that the listing call gives these bytes with an output of so many places.
+#[tactic(auto, using(crate::proofs::Reading::reads))]
+pub fn read_listing(bytes: &[u8], outputs: usize) -> Result<Sections, Refusal>
     ensures { result ≡ counted bytes.now (refusal_of bytes.now outputs) }
 {
-    let found = sections::read_sections(bytes);
-    let refusal = found.refusal;
-    if refusals::number(refusal) != 0 {
-        return sections::refused(refusal);
-    }
-    let functions = found.functions;
-    let patterns = found.patterns;
+    let found = read_sections(bytes)?;
+    let Sections {
+        functions,
+        patterns,
+    } = found;
     let end = 4 + 2 * functions + 2 * patterns;
     let written = end + 2 + 2 * (functions * patterns);
     if end < bytes.len() {
-        return sections::refused(Refusal::After);
+        return Err(Refusal::After);
     }
     if outputs < written {
-        return sections::refused(Refusal::Output);
+        return Err(Refusal::Output);
     }
-    found
+    Ok(found)
 }
 
-// Reads the listing in `input` and writes the answered listing into the first bytes of `output`. A refused call writes nothing.
-pub fn answer_listing(input: &[u8], output: &mut [u8]) -> Listed
+// Reads the listing in `input`, writes the answered listing into the first bytes of `output` and answers how many bytes that is. A
+// refused call writes nothing.
+#[tactic(auto, using(crate::proofs::Reading::calls))]
+pub fn answer_listing(input: &[u8], output: &mut [u8]) -> Result<usize, Refusal>
     ensures value { result ≡ listed_of input.now (length output.old) }
     ensures output_after { output.new ≡ output_of input.now output.old }
 {
-    let found = read_listing(input, output.len());
-    let refusal = found.refusal;
-    if refusals::number(refusal) != 0 {
-        return refused(refusal);
-    }
-    let functions = found.functions;
-    let patterns = found.patterns;
+    let Sections {
+        functions,
+        patterns,
+    } = read_listing(input, output.len())?;
     let written = 6 + 2 * functions + 2 * patterns + 2 * (functions * patterns);
     answer_rows::write_answered(input, functions, patterns, output);
-    Listed {
-        written,
-        refusal: Refusal::None,
-    }
-}
-
-fn refused(refusal: Refusal) -> Listed
-    ensures { result ≡ record { written = 0; refusal = refusal } }
-{
-    Listed {
-        written: 0,
-        refusal,
-    }
+    Ok(written)
 }
 
 // The reply to a refused listing: FF FF and the refusal's number, in the first four bytes of `output`, and how many bytes that
@@ -79,6 +58,6 @@ pub fn put_refusal(output: &mut [u8], refusal: Refusal) -> usize
     }
     output[0] = 0xFF;
     output[1] = 0xFF;
-    words::put_number(output, 2, refusals::number(refusal));
+    words::put_number(output, 2, u16::from(refusal));
     4
 }

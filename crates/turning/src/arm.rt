@@ -8,6 +8,8 @@ use crate::matrix::{arm_times, matrix_times};
 
 const ONE: u16 = 0x4000;
 
+const NAR: u16 = 0x8000;
+
 // What a matrix has of its angle: the sine, minus the sine, and the cosine.
 #[derive(Clone, Copy)]
 struct Wave {
@@ -16,61 +18,55 @@ struct Wave {
     cosine: u16,
 }
 
-#[tactic(auto, using(crate::proofs::Steps::sine_is, crate::proofs::Steps::cosine_is))]
-fn wave_of(angle: u16) -> Wave
-    ensures { (result.sine ≡ sine angle) × (result.minus ≡ opposite 16 (sine angle)) × (result.cosine ≡ cosine angle) }
-{
-    let sine = circular::sin_pi(angle);
-    Wave {
-        sine: sine,
-        minus: arithmetic::negate(sine),
-        cosine: circular::cos_pi(angle),
+impl Wave {
+    #[tactic(auto, using(crate::proofs::Steps::sine_is, crate::proofs::Steps::cosine_is))]
+    fn of(angle: u16) -> Wave
+        ensures { (result.sine ≡ sine angle) × (result.minus ≡ opposite 16 (sine angle)) × (result.cosine ≡ cosine angle) }
+    {
+        let sine = circular::sin_pi(angle);
+        Wave {
+            sine,
+            minus: arithmetic::negate(sine),
+            cosine: circular::cos_pi(angle),
+        }
     }
 }
 
 fn heading_matrix(heading: u16) -> [[u16; 3]; 3]
     ensures { result ≡ heading_matrix_of heading }
 {
-    let w = wave_of(heading);
+    let w = Wave::of(heading);
     [[w.cosine, w.minus, 0], [w.sine, w.cosine, 0], [0, 0, ONE]]
 }
 
 fn pitch_matrix(pitch: u16) -> [[u16; 3]; 3]
     ensures { result ≡ pitch_matrix_of pitch }
 {
-    let w = wave_of(pitch);
+    let w = Wave::of(pitch);
     [[w.cosine, 0, w.sine], [0, ONE, 0], [w.minus, 0, w.cosine]]
 }
 
 fn roll_matrix(roll: u16) -> [[u16; 3]; 3]
     ensures { result ≡ roll_matrix_of roll }
 {
-    let w = wave_of(roll);
+    let w = Wave::of(roll);
     [[ONE, 0, 0], [0, w.cosine, w.minus], [0, w.sine, w.cosine]]
 }
 
 fn any_nar(a: [u16; 3]) -> bool
     ensures { result ≡ any_nar_of a }
 {
-    if a[0] == 0x8000 {
-        return true;
-    }
-    if a[1] == 0x8000 {
-        return true;
-    }
-    a[2] == 0x8000
+    a.contains(&NAR)
 }
 
 // The arm, turned by roll, then by pitch, then by heading. A NaR in any angle or any part of the arm is asked for outright:
 // that of a heading would not reach the third part, whose row of the heading's matrix is 0, 0, 1.
+#[tactic(auto, unfolding(crate::specs::Turn::turned))]
 pub fn turn(heading: u16, pitch: u16, roll: u16, arm: [u16; 3]) -> [u16; 3]
     ensures { result ≡ turned heading pitch roll arm }
 {
-    if any_nar([heading, pitch, roll]) {
-        return [0x8000, 0x8000, 0x8000];
-    }
-    if any_nar(arm) {
-        return [0x8000, 0x8000, 0x8000];
+    if any_nar([heading, pitch, roll]) || any_nar(arm) {
+        return [NAR; 3];
     }
     let m = matrix_times(
         matrix_times(heading_matrix(heading), pitch_matrix(pitch)),

@@ -1,37 +1,32 @@
 -- The two numbers, taken apart, and their product.
-use Rattle.std.proofs.Common.{◌≡◌, ℕ, ◌+◌, ◌*◌, ◌%◌, ◌^◌, ◌≤◌, ℤ, pos, negsuc, ◌-ℤ◌, ◌*ℤ◌, ap, subst, ◌∙◌, arith, w32, FitsSigned, to_z, of_z, to_z-of_z}
+use Rattle.std.proofs.Common.{◌≡◌, ℕ, ◌+◌, ◌*◌, ◌%◌, ◌≤◌, ℤ, pos, negsuc, ◌-ℤ◌, ◌*ℤ◌, subst, arith, w32, to_z, of_z}
+use Rattle.std.proofs.lemmas.Int.{ints}
 use mathlib.Core.Path.{subst⁻¹}
 use lib.Dec.{ltb}
 use lib.Ieee.{unlike}
-use mir.Facts.{to_z_pos}
 use Rattle.posit.specs.Rounding.{Known, dyadic, over, Rounds}
-use Rattle.rows.proofs.Whole.{mag_small}
 use Rattle.arithmetic.specs.Sizes.{units_in, signed_units}
 use Rattle.arithmetic.proofs.Exact.{times, rounds_signed, product-scaled, reals_times}
 use Rattle.arithmetic.proofs.products.multiply.Goals as goal
 
 -- the sum of the two powers, and that less 80, in 32 bits
 power : (n : ℕ) → n ≤ 114 → to_z w32 (of_z w32 (to_z w32 (n % 128) -ℤ pos 80)) ≡ pos n -ℤ pos 80
-power n few =
-    let plus : to_z w32 (n % 128) ≡ pos n = to_z_pos w32 {n = n % 128} (omega arith) ∙ ap pos (let e : n % 128 ≡ n = omega arith in e) in
-    let fits : FitsSigned w32 (to_z w32 (n % 128) -ℤ pos 80) =
-    rw plus (let l = mag_small n 80 (2 ^ 31) (omega arith) (omega arith) in record { sfits = l }) in
-    to_z-of_z fits ∙ ap (λ (z : ℤ). z -ℤ pos 80) plus
+power n few = omega (arith, ints)
 
 pub returns : goal.returns
 returns c =
     let a = c.args.a in
     let b = c.args.b in
-    let s = c.parts_of-s.result in
-    let t = c.parts_of-t.result in
+    let s = c.of-s.result in
+    let t = c.of-t.result in
     let r = c.round.result in
     let p = ltb 0x8000 a in
     let q = ltb 0x8000 b in
     let exact : dyadic (pos (s.significand * t.significand)) (pos (s.power + t.power) -ℤ pos 80) ≡ over (pos (units_in a * units_in b)) 56 =
-    product-scaled (units_in a) (units_in b) s.significand t.significand s.power t.power c.parts_of-s.ensures.value c.parts_of-t.ensures.value in
+    product-scaled (units_in a) (units_in b) s.significand t.significand s.power t.power c.of-s.ensures.value c.of-t.ensures.value in
     let rounded =
     subst (λ (e : ℤ). Rounds 1 16 (dyadic (pos (s.significand * t.significand)) e) r)
-    (power (s.power + t.power) (omega (arith, c.parts_of-s.ensures.few, c.parts_of-t.ensures.few)))
+    (power (s.power + t.power) (omega (arith, c.of-s.ensures.few, c.of-t.ensures.few)))
     c.round.ensures in
     reals_times a b c.signed.result c.if-a-eq32768.false c.if-b-eq32768.false
     (subst⁻¹ (λ (u : ℕ). Rounds 1 16 (over (signed_units a *ℤ signed_units b) 56) u) c.signed.ensures
