@@ -1,5 +1,6 @@
 -- Decimal digits: how many a number has, and one more of them.
-use Rattle.std.proofs.Common.{◌≡◌, ℕ, zero, suc, ◌+◌, ◌/◌, ◌%◌, ◌≤◌, Bool, true, false, cond, ltb, List, [], ◌∷◌, length, set, ℤ, pos, negsuc, refl, arith, length-append}
+use Rattle.std.proofs.Common.{◌≡◌, ℕ, zero, suc, ◌+◌, ◌/◌, ◌%◌, ◌≤◌, List, [], ◌∷◌, length, set, ℤ, pos, negsuc, refl, arith, length-append}
+use Rattle.std.proofs.lemmas.Bool.Decides.{nat_tests}
 use lib.Seq.{sets}
 use Rattle.line.specs.Line.{digits, width, decimal, field, integer, apart, line_of}
 use Rattle.line.proofs.Writing.{sets_last}
@@ -12,14 +13,8 @@ length_digits (suc k) n = omega (arith, length-append (digits k (n / 10)) ((48 +
 pub digits_last : (l : List ℕ) (at k n : ℕ) → sets (set l (at + k) (48 + n % 10)) at (digits k (n / 10)) ≡ sets l at (digits (suc k) n)
 digits_last l at k n = sets_last l at (digits k (n / 10)) k (48 + n % 10) (length_digits k (n / 10))
 
-cond_most : (b : Bool) (x y most : ℕ) → x ≤ most → y ≤ most → cond b x y ≤ most
-cond_most true x y most h k = h
-cond_most false x y most h k = k
-
 pub width_most : (n : ℕ) → width n ≤ 5
-width_most n =
-    cond_most (ltb n 10) 1 _ 5 (omega arith)
-    (cond_most (ltb n 100) 2 _ 5 (omega arith) (cond_most (ltb n 1000) 3 _ 5 (omega arith) (cond_most (ltb n 10000) 4 5 5 (omega arith) (omega arith))))
+width_most n = grind (arith, nat_tests)
 
 pub length-decimal : (n : ℕ) → length (decimal n) ≡ width n
 unfolding decimal

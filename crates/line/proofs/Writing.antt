@@ -1,6 +1,6 @@
 -- Bytes written one after the other, bytes written from the last to the first, and a line that fits or does not.
-use Rattle.std.proofs.Common.{◌≡◌, ℕ, suc, ◌+◌, ◌<◌, ◌≤◌, Bool, true, false, cond, ltb, List, [], ◌∷◌, ◌++◌, length, set, sym, refl, ap, ◌∙◌, arith, length-append, ltb-false, le-ltb, lt-ltb}
-use lib.Seq.{sets, set_comm, length-sets}
+use Rattle.std.proofs.Common.{◌≡◌, ℕ, suc, ◌+◌, ◌≤◌, Bool, true, false, cond, ltb, List, [], ◌∷◌, ◌++◌, length, set, sym, refl, ap, ◌∙◌, arith, length-append, ltb-false, le-ltb}
+use lib.Seq.{sets, set_comm}
 use Rattle.words.proofs.Writing.{sets_append}
 use Rattle.line.specs.Line.{fitted, room_for}
 
@@ -39,17 +39,6 @@ line_written l i vs₁ vs₂ vs₃ vs₄ vs₅ i₁ i₂ i₃ i₄ i₅ v l₁ l
     let five = written_more l i (vs₁ ++ vs₂ ++ vs₃ ++ vs₄) vs₅ i₄ i₅ l₄ l₅ four w₅ in
     (written_more l i (vs₁ ++ vs₂ ++ vs₃ ++ vs₄ ++ vs₅) (v ∷ []) i₅ (i₅ + 1) l₅ (set l₅ i₅ v) five (refl, refl)).1
 
--- at most `most` of the places that are left are taken
-pub written_room : (l : List ℕ) (i : ℕ) (vs : List ℕ) (end : ℕ) (left : List ℕ) (room most : ℕ)
-    → Written l i vs end left → length vs ≤ most → i + (room + most) ≤ length l → end + room ≤ length left
-written_room l i vs end left room most w h k = omega (arith, w.0, ap length w.1 ∙ length-sets l i vs)
-
-pub written_same : (l : List ℕ) (i : ℕ) (vs ws : List ℕ) (end : ℕ) (left : List ℕ) → vs ≡ ws → Written l i vs end left → Written l i ws end left
-written_same l i vs ws end left e w = (w.0 ∙ ap (λ (us : List ℕ). i + length us) e, w.1 ∙ ap (sets l i) e)
-
-pub fitted_none : (left : ℕ) (line : List ℕ) → left < room_for → fitted left line ≡ []
-fitted_none left line h = cc (lt-ltb left room_for h)
-
 pub fitted-all : (left : ℕ) (line : List ℕ) → room_for ≤ left → fitted left line ≡ line
 fitted-all left line h = cc (le-ltb left room_for h)
 
@@ -58,11 +47,3 @@ fitted_most left line h = by (ltb left room_for) refl where
   by : (t : Bool) → ltb left room_for ≡ t → length (cond t [] line) ≤ left
   by true e = omega arith
   by false e = omega (arith, ltb-false left room_for e)
-
--- what a writer of a line owes: how many bytes it has written, and the bytes
-pub nothing_written : (l : List ℕ) (i left : ℕ) (line : List ℕ) → left < room_for → (0 ≡ length (fitted left line)) × (l ≡ sets l i (fitted left line))
-nothing_written l i left line h = let e = sym (fitted_none left line h) in (ap length e, ap (sets l i) e)
-
-pub all_written : (l : List ℕ) (i left : ℕ) (line : List ℕ) (n : ℕ) (l' : List ℕ) → room_for ≤ left → n ≡ length line → l' ≡ sets l i line
-    → (n ≡ length (fitted left line)) × (l' ≡ sets l i (fitted left line))
-all_written l i left line n l' h p q = let e = sym (fitted-all left line h) in (p ∙ ap length e, q ∙ ap (sets l i) e)

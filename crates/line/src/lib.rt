@@ -19,18 +19,15 @@ pub fn put_line(
     ensures value { result ≡ length (fitted (length output.old - at) (line_of function pattern first second)) }
     ensures output_after { output.new ≡ sets output.old at (fitted (length output.old - at) (line_of function pattern first second)) }
 {
-    if output.len() < 31 {
+    if output.len() < 31 || output.len() - 31 < at {
         return 0;
     }
-    if output.len() - 31 < at {
-        return 0;
-    }
-    let after_function = put_field(output, at, function, 32);
-    let after_pattern = put_field(output, after_function, pattern, 32);
-    let after_first = put_field(output, after_pattern, first, 32);
-    let after_second = put_field(output, after_first, second, 32);
+    let after_function = put_field(output, at, function, b' ');
+    let after_pattern = put_field(output, after_function, pattern, b' ');
+    let after_first = put_field(output, after_pattern, first, b' ');
+    let after_second = put_field(output, after_first, second, b' ');
     let end = put_apart(output, after_second, first, second);
-    output[end] = 10;
+    output[end] = b'\n';
     end + 1 - at
 }
 
@@ -42,23 +39,22 @@ pub fn put_number_line(output: &mut [u8], n: u16) -> usize
     if output.len() < 31 {
         return 0;
     }
-    put_field(output, 0, n, 10)
+    put_field(output, 0, n, b'\n')
 }
 
-// Writes the second less the first, both read as signed numbers, and answers the place after it. Half the patterns' number added
-// to both, and wrapped, they stand in the same order unsigned.
+// Writes the second less the first, both read as signed numbers, and answers the place after it.
 fn put_apart(output: &mut [u8], at: usize, first: u16, second: u16) -> usize
     requires { at + 6 ≤ length output.old }
     ensures value { result ≡ at + length (integer (apart first second)) }
     ensures output_after { output.new ≡ sets output.old at (integer (apart first second)) }
 {
-    let low = std::num::wrapping_add_u16(first, 0x8000);
-    let high = std::num::wrapping_add_u16(second, 0x8000);
+    let low = first.cast_signed();
+    let high = second.cast_signed();
     if high < low {
-        output[at] = 45;
-        return put_decimal(output, at + 1, low - high);
+        output[at] = b'-';
+        return put_decimal(output, at + 1, high.abs_diff(low));
     }
-    put_decimal(output, at, high - low)
+    put_decimal(output, at, high.abs_diff(low))
 }
 
 // Writes a number and the byte after it, and answers the place after both.
@@ -88,29 +84,24 @@ fn put_decimal(output: &mut [u8], at: usize, n: u16) -> usize
 fn width_of(n: u16) -> usize
     ensures { (result ≡ width n) × (result ≤ 5) }
 {
-    if n < 10 {
-        1
-    } else if n < 100 {
-        2
-    } else if n < 1000 {
-        3
-    } else if n < 10000 {
-        4
-    } else {
-        5
+    match n {
+        0..=9 => 1,
+        10..=99 => 2,
+        100..=999 => 3,
+        1000..=9999 => 4,
+        _ => 5,
     }
 }
 
 // Writes the last `count` digits of a number, the last one first.
+#[tactic(auto, using(crate::proofs::Digits::digits_last))]
 fn put_digits(output: &mut [u8], at: usize, count: usize, n: u16)
     requires { at + count ≤ length output.old }
     ensures { output.new ≡ sets output.old at (digits count n) }
 {
     let mut rest = n;
-    let mut left = count;
-    while left > 0 {
-        left -= 1;
-        output[at + left] = 48 + (rest % 10) as u8;
+    for left in (0..count).rev() {
+        output[at + left] = b'0' + (rest % 10) as u8;
         rest /= 10;
     }
 }

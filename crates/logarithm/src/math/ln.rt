@@ -9,16 +9,13 @@ use posit::Sided;
 pub fn ln_sided(p: u16) -> Sided
     ensures { MeetsSided (row p) result }
 {
-    if p == 0 {
-        return posit::outright(0x8000);
-    }
-    if 0x7fff < p {
+    if p == 0 || 0x7fff < p {
         return posit::outright(0x8000);
     }
     let d = posit::decode(p);
     let l = (d.power as u64) * 0x4000_0000 + ln_poly(d.fraction as u64);
     let negative = l < 28 * 0x4000_0000;
-    let size = crate::fixed::apart(l, 28 * 0x4000_0000);
+    let size = l.abs_diff(28 * 0x4000_0000);
     let scale: u64 = if negative { 186_065_280 } else { 186_065_279 };
     posit::signed_sided(negative, posit::round_sided((size * scale) >> 28, -30))
 }
@@ -27,8 +24,7 @@ pub fn ln_sided(p: u16) -> Sided
 pub fn ln(p: u16) -> u16
     ensures { Meets (row p) result }
 {
-    let a = ln_sided(p);
-    a.pattern
+    ln_sided(p).pattern
 }
 
 fn ln_poly(f: u64) -> u64

@@ -9,16 +9,13 @@ use posit::Sided;
 pub fn log2_sided(p: u16) -> Sided
     ensures { MeetsSided (row p) result }
 {
-    if p == 0 {
-        return posit::outright(0x8000);
-    }
-    if 0x7fff < p {
+    if p == 0 || 0x7fff < p {
         return posit::outright(0x8000);
     }
     let d = posit::decode(p);
     let l = (d.power as u64 % 64) * 0x1000_0000 + log2_poly(d.fraction as u64); // the remainder tells the compiler: it is small
     let negative = l < 28 * 0x1000_0000;
-    let size = crate::fixed::apart(l, 28 * 0x1000_0000);
+    let size = l.abs_diff(28 * 0x1000_0000);
     posit::signed_sided(negative, posit::round_sided(size, -28))
 }
 
@@ -26,8 +23,7 @@ pub fn log2_sided(p: u16) -> Sided
 pub fn log2(p: u16) -> u16
     ensures { Meets (row p) result }
 {
-    let a = log2_sided(p);
-    a.pattern
+    log2_sided(p).pattern
 }
 
 fn log2_poly(f: u64) -> u64

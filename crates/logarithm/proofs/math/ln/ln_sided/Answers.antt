@@ -1,5 +1,5 @@
 -- No logarithm where the number is not above zero, and else row 3's.
-use Rattle.std.proofs.Common.{rules, ◌≡◌, ◌+◌, ◌*◌, ◌/◌, ◌^◌, cond, ltb, pos, refl, arith, lt-ltb, le-ltb}
+use Rattle.std.proofs.Common.{rules, ◌≡◌, ⊎_elim, ◌+◌, ◌*◌, ◌/◌, ◌^◌, cond, ltb, pos, refl, arith, lt-ltb, le-ltb}
 use Rattle.posit.specs.Rounding.{over}
 use Rattle.logarithm.specs.Ln.{poly, logarithm, natural, otherwise, row}
 use Rattle.logarithm.proofs.Rows.Logarithms.{Logarithmic, at_zero, at_nar_or_minus, at_plus}
@@ -12,11 +12,7 @@ logarithmic = record { to_nar = refl; to_zero = refl; to_minus = λ k. refl; to_
 
 pub returns-then-p-eq0 : goal.returns-then-p-eq0
 unfolding row
-returns-then-p-eq0 c = rw (at_zero logarithmic c.args.p c.if-p-eq0.true) (search rules)
-
-pub returns-then-p-gt32767 : goal.returns-then-p-gt32767
-unfolding row
-returns-then-p-gt32767 c = rw (at_nar_or_minus logarithmic c.args.p c.if-p-gt32767.true) (search rules)
+returns-then-p-eq0 c = rw (⊎_elim (at_zero logarithmic c.args.p) (λ w. at_nar_or_minus logarithmic c.args.p w.1) c.then-p-eq0.either) (search rules)
 
 pub returns : goal.returns
 unfolding row
@@ -28,4 +24,4 @@ returns c =
       | else-negative w ↦ rw (le-ltb _ _ w.if-negative.false) w.scale-is
     ] in
     at_plus logarithmic c.round_sided.result (omega arith) (omega arith) d.ensures
-    c.ln_poly.ensures.value c.apart-size.ensures (rw scale at c.round_sided.ensures) c.signed_sided.ensures
+    c.ln_poly.ensures.value c.abs_diff-size.ensures (rw scale at c.round_sided.ensures) c.signed_sided.ensures
