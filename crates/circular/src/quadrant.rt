@@ -1,28 +1,46 @@
-// The quadrant of an angle and the rest of it, which sin_pi and cos_pi share; tan_pi reflects by it too.
+// An angle by quarter turns, which sin_pi and cos_pi share, and the argument that the kernels take; tan_pi reflects by it too.
 ghost use Rattle.std.specs.Prelude.{◌≡◌, ◌^◌, ◌<◌};
-ghost use Rattle.circular.specs.Quadrants.{quadrant, rest, reflected};
 
+// The quadrant of an angle, modulo 4, and the rest of it in units of 2^-28 half-turns.
 #[derive(Clone, Copy)]
 pub struct Reduced {
     pub quadrant: u64,
     pub rest: u64,
+    ghost in_quarter: { rest < 2 ^ 27 },
 }
 
-// x / 2^28 half-turns by quarter turns.
-pub fn reduce(x: u64) -> Reduced
-    ensures { (result.quadrant ≡ quadrant x) × (result.rest ≡ rest x) }
-{
-    Reduced {
-        quadrant: (x >> 27) % 4,
-        rest: x % 0x0800_0000,
+// What a kernel takes: an angle within a quarter turn, and not zero, in units of 2^-28 half-turns.
+#[derive(Clone, Copy)]
+pub struct Argument {
+    pub units: u64,
+    ghost some: { 0 < units },
+    ghost in_quarter: { units < 2 ^ 27 },
+}
+
+impl Reduced {
+    ghost use Rattle.circular.specs.Quadrants.{quadrant, rest, reflected};
+
+    // The angle of x / 2^28 half-turns.
+    pub fn of(x: u64) -> Reduced
+        ensures { (result.quadrant ≡ quadrant x) × (result.rest ≡ rest x) }
+    {
+        Reduced {
+            quadrant: (x >> 27) % 4,
+            rest: x % 0x0800_0000,
+        }
     }
-}
 
-// The rest r in the quadrant q, reflected where the quadrant is odd.
-pub fn reflect(q: u64, r: u64) -> u64
-    requires { (0 < r) × (r < 2 ^ 27) }
-    ensures value { result ≡ reflected q r }
-    ensures result_nonzero { (0 < result) × (result < 2 ^ 27) }
-{
-    if q % 2 == 1 { 0x0800_0000 - r } else { r }
+    // The rest, reflected where the quadrant is odd.
+    pub fn reflected(self) -> Argument
+        requires { 0 < self.rest }
+        ensures { result.units ≡ reflected self.quadrant self.rest }
+    {
+        Argument {
+            units: if self.quadrant % 2 == 1 {
+                0x0800_0000 - self.rest
+            } else {
+                self.rest
+            },
+        }
+    }
 }

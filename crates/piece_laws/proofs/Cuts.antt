@@ -5,16 +5,16 @@ use mathlib.Core.Path.{◌≡◌, refl, sym, ap, ◌∙◌}
 use mathlib.Core.Bool.{Bool, true, false}
 use mathlib.Core.List.{List, [], ◌∷◌, ◌++◌, append_assoc, append-nil}
 use lib.ListN.{length}
-use Rattle.refusals.specs.declared.Refusal.TheVariants.{None}
-use Rattle.refusals.specs.Refusals.{is_none}
+use Rattle.std.specs.Prelude.{Option, Some, None, is_none}
+use Rattle.refusals.specs.declared.Refusal.{Refusal}
 use Rattle.refusals.proofs.Refusing.{none_is}
 use Rattle.listing.specs.Outcome.{listed_of, output_of}
 use Rattle.listing.proofs.Calls.{refused_call}
 use Rattle.piece_state.specs.declared.Pieces.{Pieces}
 use Rattle.pieces.specs.declared.Pieced.{Pieced}
 use Rattle.piece_state.specs.State.{keeping, fresh_state, so_far_of, state_after_of, bytes_so_far, handed_in_of}
-use Rattle.pieces.specs.Calls.{piece_of, end_of, end_output_of}
-use Rattle.pieces.proofs.Calls.{ended_with, refused_piece, refused_end, refused_output, taken-piece, taken-end, taken-output}
+use Rattle.pieces.specs.Calls.{piece_of, ended_with, end_of, end_output_of}
+use Rattle.pieces.proofs.Calls.{refused_piece, refused_end, refused_output, taken-piece, taken-end, taken-output}
 use Rattle.piece_laws.specs.Sequences.{run, pieces, joined}
 use Rattle.piece_laws.proofs.Growing.{met_whole, met_stays}
 use Rattle.piece_laws.proofs.Produced.{nothing_yet, kept_bytes, kept_refusal, brings, after-produced}
@@ -58,21 +58,21 @@ module _ (b : List ℕ) where
   -- the end
   pub end_after : (output : List ℕ)
       → (end_of (state_after_of b) (length output) ≡ ended_with (listed_of b (length output))) × (end_output_of (state_after_of b) output ≡ output_of b output)
-  end_after output = go (is_none (so_far_of b)) refl
+  end_after output = go (so_far_of b) refl
     where
-      go : (t : Bool) → is_none (so_far_of b) ≡ t
+      go : (r : Option Refusal) → so_far_of b ≡ r
           → (end_of (state_after_of b) (length output) ≡ ended_with (listed_of b (length output))) × (end_output_of (state_after_of b) output ≡ output_of b output)
-      go true e =
-          let n = ap is_none (after_brings b) ∙ e in
-          let same : bytes_so_far (state_after_of b) ≡ b = ap bytes_so_far (none_after b e) ∙ kept_bytes b None in (
+      go None e =
+          let n = ap is_none (after_brings b ∙ e) in
+          let same : bytes_so_far (state_after_of b) ≡ b = ap bytes_so_far (none_after b (ap is_none e)) ∙ kept_bytes b None in (
             taken-end (state_after_of b) n (length output) ∙ ap (λ (l : List ℕ). ended_with (listed_of l (length output))) same,
             taken-output (state_after_of b) n output ∙ ap (λ (l : List ℕ). output_of l output) same,
           )
-      go false e =
-          let n = ap is_none (after_brings b) ∙ e in
-          let q = refused_call b output (so_far_of b) (met_whole b e (length output)) e in (
-            refused_end (state_after_of b) (length output) n ∙ rw (after_brings b, met_after b e) (ap ended_with q.0),
-            refused_output (state_after_of b) output n ∙ q.1,
+      go (Some r) e =
+          let n = ap is_none e in
+          let q = refused_call b output r (met_whole b n (length output) ∙ e) in (
+            refused_end (state_after_of b) (length output) (ap is_none (after_brings b) ∙ n) ∙ rw (after_brings b, met_after b n, e) (ap ended_with q.0),
+            refused_output (state_after_of b) output (ap is_none (after_brings b) ∙ n) ∙ q.1,
           )
 
 pub fresh_after : state_after_of [] ≡ fresh_state

@@ -7,8 +7,9 @@ use native.Mathlib.Omega.{arith}
 use borrow.Author.Tests.{ltb-true, ltb-false}
 use lib.ListN.{length, length-append}
 use lib.Dec.{ltb}
-use Rattle.refusals.specs.declared.Refusal.TheVariants.{None, After}
-use Rattle.refusals.specs.Refusals.{is_none, is_cut}
+use Rattle.refusals.specs.declared.Refusal.TheVariants.{After}
+use Rattle.std.specs.Prelude.{Some, None, is_none}
+use Rattle.refusals.specs.Refusals.{is_cut}
 use Rattle.sections.specs.Sections.{past_patterns}
 use Rattle.sections.specs.Order.{sections_refusal}
 use Rattle.sections.proofs.Sound.{Sound, sound, sound_of}
@@ -22,7 +23,7 @@ use Rattle.piece_state.proofs.SoFar.{not_cut, cut_none, sound_after, sound_so_fa
 -- bytes that have met a refusal: one of their sections, or 6
 pub data Met (b : List ℕ) : Type 0 where
   in_sections : is_none (sections_refusal b) ≡ false → is_cut (sections_refusal b) ≡ false → so_far_of b ≡ sections_refusal b → Met b
-  after_them : Sound b → past_patterns b < length b → so_far_of b ≡ After → Met b
+  after_them : Sound b → past_patterns b < length b → so_far_of b ≡ Some After → Met b
 
 module _ (b : List ℕ) where
   pub met_of : is_none (so_far_of b) ≡ false → Met b

@@ -9,9 +9,10 @@ use borrow.Author.Tests.{ne_eqb, ltb-true, ltb-false}
 use lib.ListN.{length, take, drop, get_or, replicate, length-append, take-append-drop, drop_of_length-le}
 use lib.Seq.{take_at, drop-cons}
 use lib.Dec.{eqb, ltb}
+use Rattle.std.specs.Prelude.{Option, Some, None}
 use Rattle.refusals.specs.declared.Refusal.{Refusal}
-use Rattle.refusals.specs.declared.Refusal.TheVariants.{None, Function, Output, Start, Cut, Limits, After, Count, Different, State}
-use Rattle.refusals.specs.Refusals.{number_of, refusal_numbered, is_state}
+use Rattle.refusals.specs.declared.Refusal.TheVariants.{Function, Output, Start, Cut, Limits, After, Count, Different, State}
+use Rattle.refusals.specs.Refusals.{number_or_zero, refusal_numbered, is_state}
 use Rattle.words.specs.Numbers.{bytes_of, number_at_of}
 use Rattle.sections.proofs.Back.{Bytes, number_back}
 use Rattle.piece_state.specs.declared.Pieces.{Pieces}
@@ -20,20 +21,20 @@ use Rattle.piece_state.proofs.Kept.{good_of}
 use Rattle.stored.specs.Stored.{state_in_of, layout}
 
 -- each refusal has its number back
-pub numbered_back : (r : Refusal) → refusal_numbered (number_of r) ≡ r
+pub numbered_back : (r : Option Refusal) → refusal_numbered (number_or_zero r) ≡ r
 numbered_back None = refl
-numbered_back Function = refl
-numbered_back Output = refl
-numbered_back Start = refl
-numbered_back Cut = refl
-numbered_back Limits = refl
-numbered_back After = refl
-numbered_back Count = refl
-numbered_back Different = refl
-numbered_back State = refl
+numbered_back (Some Function) = refl
+numbered_back (Some Output) = refl
+numbered_back (Some Start) = refl
+numbered_back (Some Cut) = refl
+numbered_back (Some Limits) = refl
+numbered_back (Some After) = refl
+numbered_back (Some Count) = refl
+numbered_back (Some Different) = refl
+numbered_back (Some State) = refl
 
 -- and a number that is no State's is that of its refusal
-small : (n : ℕ) → n ≤ 8 → number_of (refusal_numbered n) ≡ n
+small : (n : ℕ) → n ≤ 8 → number_or_zero (refusal_numbered n) ≡ n
 small zero h = refl
 small (suc zero) h = refl
 small (suc (suc zero)) h = refl
@@ -45,16 +46,16 @@ small (suc (suc (suc (suc (suc (suc (suc zero))))))) h = refl
 small (suc (suc (suc (suc (suc (suc (suc (suc zero)))))))) h = refl
 small (suc (suc (suc (suc (suc (suc (suc (suc (suc n))))))))) h = absurd (omega arith)
 
-large : (n : ℕ) → 8 < n → refusal_numbered n ≡ State
+large : (n : ℕ) → 8 < n → refusal_numbered n ≡ Some State
 large n h =
     let other : (k : ℕ) → k ≤ 8 → eqb n k ≡ false = λ k l. ne_eqb n k (λ e. omega arith) in
     rw (other 0 (omega arith), other 1 (omega arith), other 2 (omega arith), other 3 (omega arith), other 4 (omega arith), other 5 (omega arith))
     (rw (other 6 (omega arith), other 7 (omega arith), other 8 (omega arith)))
 
-pub number_numbered : (n : ℕ) → is_state (refusal_numbered n) ≡ false → number_of (refusal_numbered n) ≡ n
+pub number_numbered : (n : ℕ) → is_state (refusal_numbered n) ≡ false → number_or_zero (refusal_numbered n) ≡ n
 number_numbered n h = go (ltb 8 n) refl
   where
-    go : (t : Bool) → ltb 8 n ≡ t → number_of (refusal_numbered n) ≡ n
+    go : (t : Bool) → ltb 8 n ≡ t → number_or_zero (refusal_numbered n) ≡ n
     go true e = absurd (false≢true (sym h ∙ ap is_state (large n (ltb-true 8 n e))))
     go false e = small n (ltb-false 8 n e)
 
@@ -62,17 +63,17 @@ number_numbered n h = go (ltb 8 n) refl
 not_forged : (s : Pieces) → produced s ≡ true → is_state s.refusal ≡ false
 not_forged s h = by s.refusal (good_of s h).kept
   where
-    by : (r : Refusal) → may_keep_of r (bytes_so_far s) ≡ true → is_state r ≡ false
+    by : (r : Option Refusal) → may_keep_of r (bytes_so_far s) ≡ true → is_state r ≡ false
     by None k = refl
-    by Function k = refl
-    by Output k = refl
-    by Start k = refl
-    by Cut k = refl
-    by Limits k = refl
-    by After k = refl
-    by Count k = refl
-    by Different k = refl
-    by State k = absurd (false≢true k)
+    by (Some Function) k = refl
+    by (Some Output) k = refl
+    by (Some Start) k = refl
+    by (Some Cut) k = refl
+    by (Some Limits) k = refl
+    by (Some After) k = refl
+    by (Some Count) k = refl
+    by (Some Different) k = refl
+    by (Some State) k = absurd (false≢true k)
 
 pub zeros_fresh : state_in_of (replicate 2076 0) ≡ fresh_state
 unfolding state_in_of keeping
@@ -83,15 +84,15 @@ module _ (s : Pieces) (full : length s.bytes ≡ 2072) where
   unfolding state_in_of layout
   layout_back =
       let count = bytes_of s.count in
-      let refusal = bytes_of (number_of s.refusal) in
+      let refusal = bytes_of (number_or_zero s.refusal) in
       let b = s.bytes ++ (count ++ refusal) in
       let bytes : take 2072 b ≡ s.bytes = take_at s.bytes (count ++ refusal) 2072 full in
       let counted : number_at_of b 2072 ≡ s.count = ap (number_at_of b) (sym full) ∙ number_back s.bytes s.count refusal in
       let e : s.bytes ++ count ++ (refusal ++ []) ≡ b = rw append-nil (append_assoc s.bytes count refusal) in
       let at : length (s.bytes ++ count) ≡ 2074 = length-append s.bytes count ∙ omega (arith, full) in
-      let kept : number_at_of b 2074 ≡ number_of s.refusal =
+      let kept : number_at_of b 2074 ≡ number_or_zero s.refusal =
       ap (number_at_of b) (sym at) ∙ ap (λ (l : List ℕ). number_at_of l (length (s.bytes ++ count))) (sym e)
-      ∙ number_back (s.bytes ++ count) (number_of s.refusal) [] in
+      ∙ number_back (s.bytes ++ count) (number_or_zero s.refusal) [] in
       rw (bytes, counted, kept, numbered_back s.refusal)
 
 -- bytes in which a state lies that calls produce are those of that state: so they are what the calls that produce it leave
@@ -113,8 +114,8 @@ module _ (b : List ℕ) (size : length b ≡ 2076) (bytes : Bytes b) where
   pub stored_back : produced (state_in_of b) ≡ true → layout (state_in_of b) ≡ b
   unfolding state_in_of layout
   stored_back h =
-      let kept : number_of (refusal_numbered (number_at_of b 2074)) ≡ number_at_of b 2074 = number_numbered (number_at_of b 2074) (not_forged (state_in_of b) h) in
-      let rest : bytes_of (number_at_of b 2072) ++ bytes_of (number_of (refusal_numbered (number_at_of b 2074))) ≡ drop 2072 b =
+      let kept : number_or_zero (refusal_numbered (number_at_of b 2074)) ≡ number_at_of b 2074 = number_numbered (number_at_of b 2074) (not_forged (state_in_of b) h) in
+      let rest : bytes_of (number_at_of b 2072) ++ bytes_of (number_or_zero (refusal_numbered (number_at_of b 2074))) ≡ drop 2072 b =
       ap (λ (k : ℕ). bytes_of (number_at_of b 2072) ++ bytes_of k) kept
       ∙ ap (λ (l : List ℕ). l ++ bytes_of (number_at_of b 2074)) (two_bytes 2072)
       ∙ ap (λ (l : List ℕ). get_or b 2072 0 ∷ get_or b 2073 0 ∷ l) (two_bytes 2074)

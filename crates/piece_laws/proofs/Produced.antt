@@ -8,9 +8,10 @@ use borrow.Author.Tests.{le-leb}
 use lib.ListN.{length, take, drop, replicate}
 use lib.Seq.{take-append_seam, drop-append_seam}
 use lib.Dec.{ltb}
+use Rattle.std.specs.Prelude.{Option, None, is_none}
 use Rattle.refusals.specs.declared.Refusal.{Refusal}
-use Rattle.refusals.specs.declared.Refusal.TheVariants.{None, Output, After}
-use Rattle.refusals.specs.Refusals.{is_none, is_cut, ◌before◌, refused_when}
+use Rattle.refusals.specs.declared.Refusal.TheVariants.{Output, After}
+use Rattle.refusals.specs.Refusals.{is_cut, ◌before◌, refused_when}
 use Rattle.refusals.proofs.Refusing.{before_keeps, when_keeps}
 use Rattle.sections.specs.Sections.{functions_of, patterns_of, past_patterns}
 use Rattle.sections.specs.Order.{sections_refusal}
@@ -23,7 +24,7 @@ use Rattle.piece_state.specs.State.{keeping, fresh_state, so_far_of, state_after
 use Rattle.pieces.specs.Calls.{piece_of, end_of}
 use Rattle.piece_state.proofs.SoFar.{short_so_far}
 use Rattle.piece_state.proofs.Kept.{all-zero}
-use Rattle.pieces.proofs.Calls.{refused_piece, refused_end, taken-piece, taken-end}
+use Rattle.pieces.proofs.Calls.{refused_by, refused_piece, refused_end, taken-piece, taken-end}
 use Rattle.piece_laws.specs.Sequences.{Call, piece, end, state_by, run}
 use Rattle.piece_laws.proofs.When.{one_byte}
 
@@ -31,7 +32,7 @@ pub nothing_yet : so_far_of [] ≡ None
 nothing_yet = one_byte [] (omega arith)
 
 -- what a state keeps is what it was made of
-module _ (b : List ℕ) (r : Refusal) where
+module _ (b : List ℕ) (r : Option Refusal) where
   pub kept_bytes : bytes_so_far (keeping b r) ≡ b
   unfolding keeping
   kept_bytes = take-append_seam b (replicate (longest - length b) 0)
@@ -58,7 +59,7 @@ brings s p = rw p
 pub given : (b : List ℕ) (outputs : ℕ) → may_keep_of (refusal_of b outputs) [] ≡ true
 unfolding refusal_of
 given b outputs =
-    let P : Refusal → Type 0 = λ r. may_keep_of r [] ≡ true in
+    let P : Option Refusal → Type 0 = λ r. may_keep_of r [] ≡ true in
     let none : P None = ap is_none nothing_yet in
     let after = refused_when (ltb (past_patterns b) (length b)) After in
     let short = refused_when (ltb outputs (length (answered (functions_of b) (patterns_of b)))) Output in
@@ -95,7 +96,7 @@ stays_produced s (piece p) h = go (is_none (handed_in_of s)) refl
 stays_produced s (end n) h = go (is_none (handed_in_of s)) refl
   where
     go : (t : Bool) → is_none (handed_in_of s) ≡ t → produced (end_of s n).state ≡ true
-    go true e = rw (taken-end s e n) (keeping-produced [] (refusal_of (bytes_so_far s) n) (omega arith) (given (bytes_so_far s) n))
+    go true e = rw (taken-end s e n, refused_by) (keeping-produced [] (refusal_of (bytes_so_far s) n) (omega arith) (given (bytes_so_far s) n))
     go false e = rw (refused_end s n e) h
 
 pub only_produced : (cs : List Call) → produced (run fresh_state cs) ≡ true

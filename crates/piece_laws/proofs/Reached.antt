@@ -7,21 +7,22 @@ use native.Mathlib.Omega.{arith}
 use borrow.Author.Tests.{eqb-true, ltb-true}
 use lib.ListN.{length, take}
 use lib.Dec.{ltb, eqb}
+use Rattle.std.specs.Prelude.{Option, Some, None, is_none}
 use Rattle.refusals.specs.declared.Refusal.{Refusal}
-use Rattle.refusals.specs.declared.Refusal.TheVariants.{None, Function, Output, Start, Cut, Limits, After, Count, Different, State}
-use Rattle.refusals.specs.Refusals.{is_none}
+use Rattle.refusals.specs.declared.Refusal.TheVariants.{Function, Output, Start, Cut, Limits, After, Count, Different, State}
 use Rattle.sections.specs.Sections.{section, functions_of, patterns_of, past_patterns}
 use Rattle.sections.specs.Order.{section_refusal_of, sections_refusal}
 use Rattle.sections.proofs.Back.{Bytes}
 use Rattle.sections.proofs.Known.{both}
 use Rattle.listing.specs.Answered.{listing, answered}
 use Rattle.listing.specs.Longest.{longest}
-use Rattle.listing.specs.Outcome.{refusal_of}
+use Rattle.listing.specs.Outcome.{refusal_of, writes}
 use Rattle.piece_state.specs.declared.Pieces.{Pieces}
 use Rattle.pieces.specs.declared.Ended.{Ended}
 use Rattle.piece_state.specs.State.{keeping, fresh_state, so_far_of, state_after_of, bytes_so_far, from_listing, may_keep_of, produced}
 use Rattle.pieces.specs.Calls.{end_of}
 use Rattle.piece_state.proofs.Kept.{Good, good_of, keeps}
+use Rattle.pieces.proofs.Calls.{refused_by}
 use Rattle.piece_laws.specs.Sequences.{Call, piece, end, run, AllMade}
 use Rattle.piece_laws.proofs.Cuts.{none_after, met_after, pieces_give, end_after, fresh_after}
 
@@ -34,14 +35,17 @@ pub record Reached (s : Pieces) : Type 0 where
 first_piece : (b : List ℕ) → run fresh_state (piece b ∷ []) ≡ state_after_of b
 first_piece b = pieces_give (b ∷ []) ∙ ap state_after_of (append-nil b)
 
+ended : (b : List ℕ) → (end_of (state_after_of b) 0).state ≡ keeping [] (refusal_of b 0)
+ended b = ap (λ (r : Ended). r.state) (end_after b []).0 ∙ ap (keeping []) (refused_by (refusal_of b 0) (length (writes b 0)))
+
 first_end : run fresh_state (end 0 ∷ []) ≡ keeping [] (refusal_of [] 0)
-first_end = ap (λ (s : Pieces). (end_of s 0).state) (sym fresh_after) ∙ ap (λ (r : Ended). r.state) (end_after [] []).0
+first_end = ap (λ (s : Pieces). (end_of s 0).state) (sym fresh_after) ∙ ended []
 
 then_end : (b : List ℕ) → run fresh_state (piece b ∷ end 0 ∷ []) ≡ keeping [] (refusal_of b 0)
-then_end b = ap (λ (s : Pieces). (end_of s 0).state) (first_piece b) ∙ ap (λ (r : Ended). r.state) (end_after b []).0
+then_end b = ap (λ (s : Pieces). (end_of s 0).state) (first_piece b) ∙ ended b
 
-met_first : (b : List ℕ) (r : Refusal) → so_far_of b ≡ r → is_none r ≡ false → run fresh_state (piece b ∷ []) ≡ keeping [] r
-met_first b r e n = first_piece b ∙ met_after b (ap is_none e ∙ n) ∙ ap (keeping []) e
+met_first : (b : List ℕ) (r : Refusal) → so_far_of b ≡ Some r → run fresh_state (piece b ∷ []) ≡ keeping [] (Some r)
+met_first b r e = first_piece b ∙ met_after b (ap is_none e) ∙ ap (keeping []) e
 
 -- a refused state keeps no bytes and a refusal of the listing call
 empty_of : (b : List ℕ) → length b ≡ 0 → b ≡ []
@@ -49,19 +53,19 @@ empty_of [] e = refl
 empty_of (x ∷ b) e = absurd (omega arith)
 
 module _ (s : Pieces) (full : length s.bytes ≡ longest) (g : Good s) where
-  refused_state : (r : Refusal) → s.refusal ≡ r → is_none r ≡ false → (from_listing r ≡ true) × (s ≡ keeping [] r)
-  refused_state r e n =
-      let k : may_keep_of r (bytes_so_far s) ≡ true = subst (λ (r : Refusal). may_keep_of r (bytes_so_far s) ≡ true) e g.kept in
-      let h = both (from_listing r) (eqb (length (bytes_so_far s)) 0) (rw n at k) in
+  refused_state : (r : Refusal) → s.refusal ≡ Some r → (from_listing r ≡ true) × (s ≡ keeping [] (Some r))
+  refused_state r e =
+      let k : may_keep_of (Some r) (bytes_so_far s) ≡ true = subst (λ (r : Option Refusal). may_keep_of r (bytes_so_far s) ≡ true) e g.kept in
+      let h = both (from_listing r) (eqb (length (bytes_so_far s)) 0) k in
       let none = empty_of (bytes_so_far s) (eqb-true (length (bytes_so_far s)) 0 h.1) in
       (h.0, keeps s full g ∙ ap (λ (l : List ℕ). keeping l s.refusal) none ∙ ap (keeping []) e)
 
-  never : (r : Refusal) → s.refusal ≡ r → is_none r ≡ false → from_listing r ≡ false → Reached s
-  never r e n f = absurd (false≢true (sym f ∙ (refused_state r e n).0))
+  never : (r : Refusal) → s.refusal ≡ Some r → from_listing r ≡ false → Reached s
+  never r e f = absurd (false≢true (sym f ∙ (refused_state r e).0))
 
   pub open_state : s.refusal ≡ None → s ≡ state_after_of (bytes_so_far s)
   open_state e =
-      let k : is_none (so_far_of (bytes_so_far s)) ≡ true = subst (λ (r : Refusal). may_keep_of r (bytes_so_far s) ≡ true) e g.kept in
+      let k : is_none (so_far_of (bytes_so_far s)) ≡ true = subst (λ (r : Option Refusal). may_keep_of r (bytes_so_far s) ≡ true) e g.kept in
       keeps s full g ∙ ap (keeping (bytes_so_far s)) e ∙ sym (none_after (bytes_so_far s) k)
 
 part_bytes : (n : ℕ) (b : List ℕ) → Bytes b → Bytes (take n b)
@@ -88,28 +92,27 @@ reaches s full bytes h = by s.refusal refl
     g : Good s
     g = good_of s h
 
-    one : (b : List ℕ) (r : Refusal) → all_small b ≡ true → so_far_of b ≡ r → s.refusal ≡ r → is_none r ≡ false → Reached s
-    one b r m met e n =
-        record { calls = piece b ∷ []; made = (small b m, tt); gives = met_first b r met n ∙ sym (refused_state s full g r e n).1 }
+    one : (b : List ℕ) (r : Refusal) → all_small b ≡ true → so_far_of b ≡ Some r → s.refusal ≡ Some r → Reached s
+    one b r m met e = record { calls = piece b ∷ []; made = (small b m, tt); gives = met_first b r met ∙ sym (refused_state s full g r e).1 }
 
-    by : (r : Refusal) → s.refusal ≡ r → Reached s
+    by : (r : Option Refusal) → s.refusal ≡ r → Reached s
     by None e =
         record {
           calls = piece (bytes_so_far s) ∷ [];
           made = (part_bytes s.count s.bytes bytes, tt);
           gives = first_piece (bytes_so_far s) ∙ sym (open_state s full g e);
         }
-    by Function e = one (1 ∷ 0 ∷ 0 ∷ 0 ∷ []) Function refl refl e refl
-    by Output e =
+    by (Some Function) e = one (1 ∷ 0 ∷ 0 ∷ 0 ∷ []) Function refl refl e
+    by (Some Output) e =
         record {
           calls = piece (1 ∷ 0 ∷ 1 ∷ 0 ∷ 0 ∷ 0 ∷ []) ∷ end 0 ∷ [];
           made = (small (1 ∷ 0 ∷ 1 ∷ 0 ∷ 0 ∷ 0 ∷ []) refl, (tt, tt));
-          gives = then_end (1 ∷ 0 ∷ 1 ∷ 0 ∷ 0 ∷ 0 ∷ []) ∙ sym (refused_state s full g Output e refl).1;
+          gives = then_end (1 ∷ 0 ∷ 1 ∷ 0 ∷ 0 ∷ 0 ∷ []) ∙ sym (refused_state s full g Output e).1;
         }
-    by Start e = never s full g Start e refl refl
-    by Cut e = record { calls = end 0 ∷ []; made = (tt, tt); gives = first_end ∙ sym (refused_state s full g Cut e refl).1 }
-    by Limits e = one (0 ∷ 0 ∷ []) Limits refl refl e refl
-    by After e = one (1 ∷ 0 ∷ 1 ∷ 0 ∷ 0 ∷ 0 ∷ 0 ∷ []) After refl refl e refl
-    by Count e = never s full g Count e refl refl
-    by Different e = never s full g Different e refl refl
-    by State e = never s full g State e refl refl
+    by (Some Start) e = never s full g Start e refl
+    by (Some Cut) e = record { calls = end 0 ∷ []; made = (tt, tt); gives = first_end ∙ sym (refused_state s full g Cut e).1 }
+    by (Some Limits) e = one (0 ∷ 0 ∷ []) Limits refl refl e
+    by (Some After) e = one (1 ∷ 0 ∷ 1 ∷ 0 ∷ 0 ∷ 0 ∷ 0 ∷ []) After refl refl e
+    by (Some Count) e = never s full g Count e refl
+    by (Some Different) e = never s full g Different e refl
+    by (Some State) e = never s full g State e refl

@@ -1,5 +1,6 @@
 -- "a handed-in state that no calls from a fresh one produce": calls one after the other, what each is refused for, and the state after them.
-use Rattle.std.specs.Prelude.{ℕ, ◌<◌, List, [], ◌∷◌, ◌++◌, get_or}
+use Rattle.std.specs.Prelude.{ℕ, ◌<◌, List, [], ◌∷◌, ◌++◌, get_or, Option}
+use Rattle.std.specs.Result.{result_err}
 use Rattle.refusals.specs.declared.Refusal.{Refusal}
 use Rattle.piece_state.specs.declared.Pieces.{Pieces}
 use Rattle.pieces.specs.Calls.{piece_of, end_of}
@@ -14,9 +15,9 @@ state_by s (piece p) = (piece_of s p).state
 state_by s (end outputs) = (end_of s outputs).state
 
 -- what a call is refused for
-abbrev pub said_by : Pieces → Call → Refusal
+abbrev pub said_by : Pieces → Call → Option Refusal
 said_by s (piece p) = (piece_of s p).refusal
-said_by s (end outputs) = (end_of s outputs).refusal
+said_by s (end outputs) = result_err (end_of s outputs).written
 
 abbrev pub run : Pieces → List Call → Pieces
 run s [] = s

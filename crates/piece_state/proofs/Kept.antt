@@ -1,15 +1,16 @@
 -- What a state keeps, and what it keeps after more bytes.
-use Prim.Native.Nat.{ℕ, zero, suc, ◌+◌, ◌-◌, ◌≤◌, ◌<◌}
+use Prim.Native.Nat.{ℕ, zero, suc, ◌+◌, ◌-◌, ◌≤◌}
 use mathlib.Core.Path.{◌≡◌, refl, sym, ap, ◌∙◌}
 use mathlib.Core.Bool.{Bool, true, false, not, ◌&&◌, false≢true}
 use mathlib.Core.List.{List, [], ◌∷◌, ◌++◌, append_assoc, append-nil}
 use native.Mathlib.Omega.{arith}
-use borrow.Author.Tests.{leb-true, le-leb, lt-leb, eqb-true}
+use borrow.Author.Tests.{leb-true, eqb-true}
 use lib.ListN.{length, take, drop, replicate, length-drop, length-replicate, replicate-append-replicate, take-append-drop, drop_of_length-le}
 use lib.Seq.{sets, length-take-le, drop_at}
 use lib.Dec.{leb, eqb}
+use Rattle.std.specs.Prelude.{None, is_none}
 use Rattle.refusals.specs.declared.Refusal.TheVariants.{State}
-use Rattle.refusals.specs.Refusals.{is_none, ◌before◌, refused_when}
+use Rattle.refusals.specs.Refusals.{◌before◌, refused_when}
 use Rattle.words.proofs.Writing.{sets_enough}
 use Rattle.sections.proofs.Known.{both}
 use Rattle.listing.specs.Longest.{longest}
@@ -42,26 +43,6 @@ good_of s e =
     let k = both (all_zero (drop s.count s.bytes)) (may_keep_of s.refusal (bytes_so_far s)) h.1 in
     record { within = leb-true s.count longest h.0; blank = k.0; kept = k.1 }
 
--- the refusal that a state brings, test by test
-module _ (s : Pieces) where
-  pub many_bytes : longest < s.count → handed_in_of s ≡ State
-  unfolding handed_in_of produced
-  many_bytes h = rw (lt-leb s.count longest h)
-
-  module _ (within : s.count ≤ longest) where
-    pub not-blank : all_zero (drop s.count s.bytes) ≡ false → handed_in_of s ≡ State
-    unfolding handed_in_of produced
-    not-blank h = rw (le-leb s.count longest within, h)
-
-    module _ (blank : all_zero (drop s.count s.bytes) ≡ true) where
-      pub not-kept : may_keep_of s.refusal (bytes_so_far s) ≡ false → handed_in_of s ≡ State
-      unfolding handed_in_of produced
-      not-kept h = rw (le-leb s.count longest within, blank, h)
-
-      pub is-kept : may_keep_of s.refusal (bytes_so_far s) ≡ true → handed_in_of s ≡ s.refusal
-      unfolding handed_in_of produced
-      is-kept h = rw (le-leb s.count longest within, blank, h)
-
 -- one that brings none is good and keeps none
 pub brings_none : (s : Pieces) → is_none (handed_in_of s) ≡ true → Good s × (is_none s.refusal ≡ true)
 unfolding handed_in_of
@@ -70,6 +51,9 @@ brings_none s n = go (produced s) refl n
     go : (t : Bool) → produced s ≡ t → is_none (refused_when (not t) State before s.refusal) ≡ true → Good s × (is_none s.refusal ≡ true)
     go true e h = (good_of s e, h)
     go false e h = absurd (false≢true h)
+
+pub within : (s : Pieces) → handed_in_of s ≡ None → s.count ≤ longest
+within s e = (brings_none s (ap is_none e)).0.within
 
 -- and with as many bytes in all as the longest listing has, like every value of its type
 module _ (s : Pieces) (full : length s.bytes ≡ longest) (g : Good s) where

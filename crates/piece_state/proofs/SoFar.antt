@@ -8,9 +8,10 @@ use native.Mathlib.Omega.{arith}
 use borrow.Author.Tests.{ltb-true, ltb-false}
 use lib.ListN.{length, length-append}
 use lib.Dec.{ltb}
+use Rattle.std.specs.Prelude.{Option, Some, None, is_none}
 use Rattle.refusals.specs.declared.Refusal.{Refusal}
-use Rattle.refusals.specs.declared.Refusal.TheVariants.{None, Output, After}
-use Rattle.refusals.specs.Refusals.{is_none, is_cut, ◌before◌, refused_when}
+use Rattle.refusals.specs.declared.Refusal.TheVariants.{Output, After}
+use Rattle.refusals.specs.Refusals.{is_cut, ◌before◌, refused_when}
 use Rattle.refusals.proofs.Refusing.{before_keeps, when_keeps}
 use Rattle.sections.specs.Sections.{functions_of, patterns_of, past_patterns}
 use Rattle.sections.specs.Order.{sections_refusal}
@@ -26,7 +27,7 @@ use Rattle.listing.proofs.Prefix.{long_decided}
 use Rattle.piece_state.specs.State.{so_far_of, after_more}
 
 -- where the listing call does not say that bytes are cut short, it says the same of them so far
-pub not_cut : (b : List ℕ) (r : Refusal) → refusal_of b longest_answered ≡ r → is_cut r ≡ false → so_far_of b ≡ r
+pub not_cut : (b : List ℕ) (r : Option Refusal) → refusal_of b longest_answered ≡ r → is_cut r ≡ false → so_far_of b ≡ r
 unfolding so_far_of
 not_cut b r e n = rw (e, n)
 
@@ -35,8 +36,8 @@ unfolding so_far_of
 cut_none b c = rw c
 
 -- sound sections: 6 or nothing
-pub sound_after : (b : List ℕ) → Sound b → past_patterns b < length b → so_far_of b ≡ After
-sound_after b s h = not_cut b After (bytes_after b longest_answered s h) refl
+pub sound_after : (b : List ℕ) → Sound b → past_patterns b < length b → so_far_of b ≡ Some After
+sound_after b s h = not_cut b (Some After) (bytes_after b longest_answered s h) refl
 
 pub sound_so_far : (b : List ℕ) → Sound b → length b ≤ past_patterns b → so_far_of b ≡ None
 sound_so_far b s h = not_cut b None (accepted b longest_answered (record { sections = s; nothing_after = h; room = answered_short b s })) refl
@@ -46,7 +47,7 @@ module _ (b : List ℕ) (long : longest ≤ length b) where
   long_not_cut : is_cut (refusal_of b longest_answered) ≡ false
   unfolding refusal_of
   long_not_cut =
-      let Decided : Refusal → Type 0 = λ r. is_cut r ≡ false in
+      let Decided : Option Refusal → Type 0 = λ r. is_cut r ≡ false in
       let after = refused_when (ltb (past_patterns b) (length b)) After in
       let short = refused_when (ltb longest_answered (length (answered (functions_of b) (patterns_of b)))) Output in
       before_keeps Decided (sections_refusal b) (after before short) (long_decided b long) (λ _.
@@ -87,7 +88,7 @@ module _ (first rest : List ℕ) (full : length first ≡ longest) (more : 0 < l
       let s' = sound_of all (ap is_none same ∙ e) in
       sound_after all s' (omega (arith, sound_short first s)) ∙ sym (either s u f)
     where
-      either : Sound first → (u : Bool) → ltb (past_patterns first) (length first) ≡ u → after_more (so_far_of first) ≡ After
+      either : Sound first → (u : Bool) → ltb (past_patterns first) (length first) ≡ u → after_more (so_far_of first) ≡ Some After
       either s true f = rw (sound_after first s (ltb-true (past_patterns first) (length first) f))
       either s false f = rw (sound_so_far first s (ltb-false (past_patterns first) (length first) f))
 

@@ -1,4 +1,5 @@
--- The next bytes written over the zeros after those so far: the bytes so far and the next ones, as many as there is room for.
+-- The next bytes written over the zeros after those so far: the bytes so far and the next ones, as many as there is room for, and
+-- what the piece call gives by them.
 use Prim.Native.Nat.{ℕ, ◌+◌, ◌-◌, ◌≤◌, ◌<◌}
 use mathlib.Core.Path.{◌≡◌, refl, sym, ap, ◌∙◌}
 use mathlib.Core.Bool.{Bool, true, false}
@@ -7,24 +8,31 @@ use native.Mathlib.Omega.{arith}
 use borrow.Rule.Slice.PartMut.{mid_of, put_mid}
 use lib.ListN.{length, take, drop, replicate, length-append, length-drop, length-replicate, take-append-drop, drop_of_length-le}
 use lib.Seq.{sets, length-sets, take_all, take_at}
+use Rattle.std.proofs.lemmas.Grind.{common_steps}
+use Rattle.std.specs.Prelude.{Option, None, is_none}
 use Rattle.refusals.specs.declared.Refusal.{Refusal}
-use Rattle.refusals.specs.Refusals.{is_none}
 use Rattle.listing.specs.Longest.{longest}
 use Rattle.piece_state.specs.declared.Pieces.{Pieces}
-use Rattle.piece_state.specs.State.{keeping, so_far_of, after_more, bytes_so_far}
+use Rattle.piece_state.specs.State.{keeping, so_far_of, after_more, state_after_of, bytes_so_far, handed_in_of}
 use Rattle.piece_state.proofs.SoFar.{too_long}
-use Rattle.piece_state.proofs.Kept.{Good, size, rest, fits, fills}
+use Rattle.piece_state.proofs.Kept.{Good, brings_none, within, size, rest, fits, fills}
+use Rattle.pieces.specs.declared.Pieced.{Pieced}
+use Rattle.pieces.specs.Calls.{piece_of}
+use Rattle.pieces.proofs.Calls.{taken-piece, met_piece, next_piece}
 
-pub more_refused : (r : Refusal) → is_none (after_more r) ≡ false
+pub more_refused : (r : Option Refusal) → is_none (after_more r) ≡ false
 more_refused r = go (is_none r) refl
   where
     go : (t : Bool) → is_none r ≡ t → is_none (after_more r) ≡ false
     go true e = rw e
     go false e = rw (e, e)
 
--- a good state, and what a write of p into the part after its bytes left there
-module _ (s : Pieces) (full : length s.bytes ≡ longest) (g : Good s) (p left : List ℕ)
+-- a state that brings no refusal, and what a write of p into the part after its bytes left there
+module _ (s : Pieces) (full : length s.bytes ≡ longest) (none : handed_in_of s ≡ None) (p left : List ℕ)
     (e : left ≡ sets (mid_of s.count (longest - s.count) s.bytes) 0 p) where
+  g : Good s
+  g = (brings_none s (ap is_none none)).0
+
   abbrev room : ℕ
   room = longest - s.count
 
@@ -46,31 +54,51 @@ module _ (s : Pieces) (full : length s.bytes ≡ longest) (g : Good s) (p left :
   all-size : length all ≡ s.count + length p
   all-size = length-append (bytes_so_far s) p ∙ ap (λ (n : ℕ). n + length p) (size s full g)
 
-  pub next-size : length next ≡ longest
+  next-size : length next ≡ longest
   next-size =
       let z : length (sets (replicate room 0) 0 p) ≡ room = length-sets (replicate room 0) 0 p ∙ length-replicate {A = ℕ} room 0 in
       ap length over ∙ length-append (bytes_so_far s) (sets (replicate room 0) 0 p) ∙ omega (arith, z, size s full g, g.within)
 
+  -- the call's outcome, by what all of them have met
+  outcome : piece_of s p ≡ record { state = state_after_of all; refusal = so_far_of all }
+  outcome = taken-piece s (ap is_none none) p
+
+  refused-now : (r : Option Refusal) → so_far_of all ≡ r → is_none r ≡ false → ◌≡◌ {A = Pieced} (record { state = keeping [] r; refusal = r }) (piece_of s p)
+  refused-now r h n = sym (outcome ∙ met_piece all r h n)
+
   -- there is room for p
-  module _ (h : length p ≤ room) where
-    pub next-first : take (s.count + length p) next ≡ all
+  module _ (h : length p ≤ room) (r : Option Refusal) (found : r ≡ so_far_of (take (s.count + length p) next)) where
+    next-first : take (s.count + length p) next ≡ all
     next-first =
         ap (take (s.count + length p)) (over ∙ fits (bytes_so_far s) p room h)
         ∙ take_at all (replicate (room - length p) 0) (s.count + length p) all-size
 
-    pub next-keeps : (r : Refusal) → ◌≡◌ {A = Pieces} (record { bytes = next; count = s.count + length p; refusal = r }) (keeping all r)
+    all-met : so_far_of all ≡ r
+    all-met = sym (found ∙ ap so_far_of next-first)
+
+    pub refused : is_none r ≡ false → ◌≡◌ {A = Pieced} (record { state = keeping [] r; refusal = r }) (piece_of s p)
+    refused n = refused-now r all-met n
+
+    next-keeps : ◌≡◌ {A = Pieces} (record { bytes = next; count = s.count + length p; refusal = r }) (keeping all r)
     unfolding keeping
-    next-keeps r =
+    next-keeps =
         let m : room - length p ≡ longest - length all = omega (arith, all-size) in
         let b : next ≡ all ++ replicate (longest - length all) 0 = over ∙ fits (bytes_so_far s) p room h ∙ ap (λ (k : ℕ). all ++ replicate k 0) m in
         rw (b, all-size)
 
+    pub kept : is_none r ≡ true
+        → ◌≡◌ {A = Pieced} (record { state = record { bytes = next; count = s.count + length p; refusal = r }; refusal = r }) (piece_of s p)
+    kept n = ap (λ (x : Pieces). record { state = x; refusal = r }) next-keeps ∙ sym (outcome ∙ next_piece all r all-met n)
+
   -- there is not
-  module _ (h : room < length p) where
-    pub next_more : so_far_of all ≡ after_more (so_far_of next)
-    next_more =
-        let first : next ≡ bytes_so_far s ++ take room p = over ∙ fills (bytes_so_far s) p room (omega arith) in
-        let both : all ≡ next ++ drop room p =
-        ap (λ (l : List ℕ). bytes_so_far s ++ l) (sym (take-append-drop room p)) ∙ sym (append_assoc (bytes_so_far s) (take room p) (drop room p))
-        ∙ ap (λ (l : List ℕ). l ++ drop room p) (sym first) in
-        ap so_far_of both ∙ too_long next (drop room p) next-size (omega (arith, length-drop room p))
+  pub refused-more : room < length p → (r : Option Refusal) → r ≡ after_more (so_far_of next)
+      → ◌≡◌ {A = Pieced} (record { state = keeping [] r; refusal = r }) (piece_of s p)
+  refused-more h r found =
+      let first : next ≡ bytes_so_far s ++ take room p = over ∙ fills (bytes_so_far s) p room (omega arith) in
+      let both : all ≡ next ++ drop room p =
+      ap (λ (l : List ℕ). bytes_so_far s ++ l) (sym (take-append-drop room p)) ∙ sym (append_assoc (bytes_so_far s) (take room p) (drop room p))
+      ∙ ap (λ (l : List ℕ). l ++ drop room p) (sym first) in
+      let more = ap so_far_of both ∙ too_long next (drop room p) next-size (omega (arith, length-drop room p)) in
+      refused-now r (more ∙ sym found) (ap is_none found ∙ more_refused (so_far_of next))
+
+pub ruleset outcomes = (common_steps, within, refused, kept, refused-more)

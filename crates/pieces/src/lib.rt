@@ -2,49 +2,46 @@
 #![tactic(auto)]
 
 ghost use Rattle.std.specs.Prelude.{◌≡◌, [], length};
-ghost use Rattle.refusals.specs.declared.Refusal.TheVariants.{None};
 ghost use Rattle.piece_state.specs.State.{keeping};
 ghost use Rattle.pieces.specs.Calls.{piece_of, end_of, end_output_of};
 
-use piece_state::{Pieces, empty, handed_in, so_far, too_long};
-use refusals::{Refusal, number};
-
-const LONGEST: usize = 2072;
+use piece_state::{LONGEST, Pieces, empty, handed_in, so_far, too_long};
+use refusals::Refusal;
 
 // What a piece call hands back, and why it was refused, if it was.
 #[derive(Clone, Copy)]
 pub struct Pieced {
     pub state: Pieces,
-    pub refusal: Refusal,
+    pub refusal: Option<Refusal>,
 }
 
-// What an end call hands back, how many bytes it wrote, and why it was refused, if it was.
+// What an end call hands back, and how many bytes it wrote or why it was refused.
 #[derive(Clone, Copy)]
 pub struct Ended {
     pub state: Pieces,
-    pub written: usize,
-    pub refusal: Refusal,
+    pub written: Result<usize, Refusal>,
 }
 
 // The state before any bytes have come.
 pub fn fresh() -> Pieces
     ensures { result ≡ keeping [] None }
 {
-    empty(Refusal::None)
+    empty(None)
 }
 
 // Takes the next bytes. Those so far and these may be refused already.
+#[tactic(auto, using(crate::proofs::Joined::outcomes), unfolding(crate::specs::Calls::piece_of))]
 pub fn piece(state: Pieces, bytes: &[u8]) -> Pieced
     ensures { result ≡ piece_of state bytes.now }
 {
     let handed = handed_in(state);
-    if number(handed) != 0 {
+    if handed.is_some() {
         return Pieced {
             state,
             refusal: handed,
         };
     }
-    let count = state.count as usize;
+    let count = usize::from(state.count);
     let mut next = state.bytes;
     words::copy(bytes, &mut next[count..]);
     if LONGEST - count < bytes.len() {
@@ -52,7 +49,7 @@ pub fn piece(state: Pieces, bytes: &[u8]) -> Pieced
     }
     let total = count + bytes.len();
     let refusal = so_far(&next[..total]);
-    if number(refusal) != 0 {
+    if refusal.is_some() {
         return met(refusal);
     }
     let state = Pieces {
@@ -64,34 +61,32 @@ pub fn piece(state: Pieces, bytes: &[u8]) -> Pieced
 }
 
 // What a piece call gives whose bytes meet a refusal.
-fn met(refusal: Refusal) -> Pieced
+fn met(refusal: Option<Refusal>) -> Pieced
     ensures { result ≡ record { state = keeping [] refusal; refusal = refusal } }
 {
-    let state = empty(refusal);
-    Pieced { state, refusal }
+    Pieced {
+        state: empty(refusal),
+        refusal,
+    }
 }
 
 // Answers the listing that has come, as the listing call does. The state that it hands back keeps nothing but a refusal.
+#[tactic(auto, using(crate::proofs::Calls::among), unfolding(crate::specs::Calls::end_of, crate::specs::Calls::end_output_of))]
 pub fn end(state: Pieces, output: &mut [u8]) -> Ended
     ensures value { result ≡ end_of state (length output.old) }
     ensures output_after { output.new ≡ end_output_of state output.old }
 {
-    let brought = handed_in(state);
-    if number(brought) != 0 {
+    if let Some(refusal) = handed_in(state) {
         return Ended {
             state,
-            written: 0,
-            refusal: brought,
+            written: Err(refusal),
         };
     }
-    let count = state.count as usize;
+    let count = usize::from(state.count);
     let bytes = state.bytes;
-    let l = listing::answer_listing(&bytes[..count], output);
-    let refusal = l.refusal;
-    let kept = empty(refusal);
+    let written = listing::answer_listing(&bytes[..count], output);
     Ended {
-        state: kept,
-        written: l.written,
-        refusal,
+        state: empty(written.err()),
+        written,
     }
 }

@@ -7,6 +7,7 @@
 #![tactic(auto)]
 
 use piece_state::Pieces;
+use refusals::Refusal;
 use std::io;
 
 fn main(rt: HostRuntime) -> io::Result<()> {
@@ -18,17 +19,14 @@ fn main(rt: HostRuntime) -> io::Result<()> {
 
 fn try_all(rt: &(impl Print + Eprint), steps: &[u8]) -> io::Result<()> {
     let mut state = pieces::fresh();
-    let mut at: usize = 0;
-    while steps.len() - at >= 3 {
-        let kind = steps[at];
-        let length = words::number_at(steps, at + 1) as usize;
-        let start = at + 3;
-        if steps.len() - start < length {
+    let mut left = steps;
+    while let [kind, low, high, rest @ ..] = left {
+        let length = usize::from(u16::from_le_bytes([*low, *high]));
+        let Some((bytes, next)) = rest.split_at_checked(length) else {
             return Ok(());
-        }
-        let end = start + length;
-        state = step(rt, state, kind, &steps[start..end])?;
-        at = end;
+        };
+        state = step(rt, state, *kind, bytes)?;
+        left = next;
     }
     Ok(())
 }
@@ -44,31 +42,26 @@ fn step(rt: &(impl Print + Eprint), state: Pieces, kind: u8, bytes: &[u8]) -> io
 
 fn take_piece(rt: &impl Print, state: Pieces, bytes: &[u8]) -> io::Result<Pieces> {
     let done = pieces::piece(state, bytes);
-    let refusal = done.refusal;
-    let next = done.state;
-    print_two(rt, refusals::number(refusal), next.count as u64)?;
-    Ok(next)
+    print_two(rt, done.refusal, usize::from(done.state.count))?;
+    Ok(done.state)
 }
 
 fn end_with(rt: &(impl Print + Eprint), state: Pieces, room: u16) -> io::Result<Pieces> {
     let mut output = [0u8; 65536];
-    let n = room as usize;
-    end_into(rt, state, &mut output[..n])
+    end_into(rt, state, &mut output[..usize::from(room)])
 }
 
 fn end_into(rt: &(impl Print + Eprint), state: Pieces, output: &mut [u8]) -> io::Result<Pieces> {
     let done = pieces::end(state, output);
-    let refusal = done.refusal;
-    print_two(rt, refusals::number(refusal), done.written as u64)?;
+    print_two(rt, done.written.err(), done.written.unwrap_or(0))?;
     blocks::write_block(rt, output);
     Ok(done.state)
 }
 
 fn changed(state: Pieces, numbers: &[u8]) -> Pieces {
     let mut bytes = state.bytes;
-    let place = words::number_at(numbers, 0) as usize;
-    if place < 2072 {
-        bytes[place] = (words::number_at(numbers, 2) % 256) as u8;
+    if let Some(byte) = bytes.get_mut(usize::from(words::number_at(numbers, 0))) {
+        *byte = (words::number_at(numbers, 2) % 256) as u8;
     }
     Pieces {
         bytes,
@@ -77,6 +70,6 @@ fn changed(state: Pieces, numbers: &[u8]) -> Pieces {
     }
 }
 
-fn print_two(rt: &impl Print, first: u16, second: u64) -> io::Result<()> {
-    println!(rt; "{first} {second}")
+fn print_two(rt: &impl Print, refusal: Option<Refusal>, bytes: usize) -> io::Result<()> {
+    println!(rt; "{} {bytes}", refusals::number(refusal))
 }

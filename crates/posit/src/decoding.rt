@@ -53,7 +53,7 @@ fn fields_of(p: u16) -> Fields
     ensures below_clear { result.bits % 2 ^ 51 ≡ 0 }
 {
     let q = (p % 0x8000) as u64;
-    let w = q.max(1) << 49;
+    let w = (if q == 0 { 1 } else { q }) << 49; // q.max(1) costs an instruction more
     let m = run_length(w);
     Fields {
         regime: regime_of(0x8000_0000_0000_0000 <= w, m),

@@ -5,16 +5,17 @@
 ghost use Rattle.std.specs.Prelude.{◌≡◌};
 ghost use Rattle.stored.specs.Stored.{state_in_of, handed_back};
 
-use piece_state::Pieces;
+use piece_state::{LONGEST, Pieces};
 use refusals::Refusal;
-use words::{copy, number_at, put_number};
+use words::{number_at, put_number};
 
 // The state that lies in these bytes.
+#[tactic(auto, unfolding(crate::specs::Stored::state_in_of))]
 pub fn state_in(stored: &[u8; 2076]) -> Pieces
     ensures { result ≡ state_in_of stored.now }
 {
-    let mut bytes = [0u8; 2072];
-    copy(stored, &mut bytes);
+    let mut bytes = [0u8; LONGEST];
+    bytes.copy_from_slice(&stored[..LONGEST]);
     Pieces {
         bytes,
         count: number_at(stored, 2072),
@@ -23,15 +24,14 @@ pub fn state_in(stored: &[u8; 2076]) -> Pieces
 }
 
 // Puts the state that a call hands back where the one that it took was, which stays where the call was refused for it.
-pub fn hand_back(state: Pieces, refusal: Refusal, stored: &mut [u8; 2076])
+#[tactic(auto, unfolding(crate::specs::Stored::layout))]
+pub fn hand_back(state: Pieces, refusal: Option<Refusal>, stored: &mut [u8; 2076])
     ensures { stored.new ≡ handed_back state refusal stored.old }
 {
-    if refusals::number(refusal) == 12 {
+    if refusal == Some(Refusal::State) {
         return;
     }
-    let bytes = state.bytes;
-    let kept = state.refusal;
-    copy(&bytes, stored);
+    stored[..LONGEST].copy_from_slice(&state.bytes);
     put_number(stored, 2072, state.count);
-    put_number(stored, 2074, refusals::number(kept));
+    put_number(stored, 2074, refusals::number(state.refusal));
 }

@@ -1,6 +1,6 @@
 -- What rows 5 and 7 have in common: 0 for the magnitudes from 31744 up, which are whole numbers, and else the sign of x put
 -- back on the answer to its magnitude, whose side is mirrored with it.
-use Rattle.std.proofs.Common.{◌≡◌, ℕ, ◌+◌, ◌%◌, ◌^◌, ◌<◌, ◌≤◌, cond, ltb, ℤ, refl, arith, le-leb}
+use Rattle.std.proofs.Common.{◌≡◌, ℕ, ◌+◌, ◌%◌, ◌^◌, ◌<◌, ◌≤◌, cond, ltb, ℤ, ◌⊎◌, ⊎_elim, inl, inr, refl, arith, le-leb}
 use native.Mathlib.Decide.{dec_lt}
 use borrow.Author.Tests.{lt-leb}
 use Rattle.posit.specs.Number.{Number, nar, real, number, magnitude, size}
@@ -21,27 +21,30 @@ pub record Odd (other : Number → Row) (f : ℕ → Row) : Type 0 where
   pub at_zero : f 0 ≡ names 0
   pub at_real : (q : ℤ) → other (real q) ≡ by_sign f q
 
+-- both by one test, on s less 1, which is the largest number of 16 bits where s is 0
+pub by_less : (s : ℕ) → s < 2 ^ 16 → 31742 < (s + 65535) % 2 ^ 16 → (31743 < s) ⊎ ((s ≤ 31743) × (s ≡ 0))
+by_less s small k = go (dec_lt 31743 s)
+  where
+    go : Dec (31743 < s) → (31743 < s) ⊎ ((s ≤ 31743) × (s ≡ 0))
+    go (yes l) = inl l
+    go (no l) = inr (omega arith, omega arith)
+
 module _ {other : Number → Row} {f : ℕ → Row} (odd : Odd other f) (p : ℕ) where
   pub nar_itself : p ≡ 0x8000 → MeetsSided (whole_apart other p) (outright 0x8000)
   nar_itself e = rw (e, number_nar 1 16, odd.at_nar) (refl, refl)
 
   module _ (h : p < 0x10000) (s : ℕ) (sized : s ≡ size 16 p) where
-    pub zero_itself : s ≡ 0 → MeetsSided (whole_apart other p) (outright 0)
+    zero_itself : s ≡ 0 → MeetsSided (whole_apart other p) (outright 0)
     zero_itself e = rw (size-zero p h (omega arith), number-zero 1 16, odd.at_real, odd.at_zero) (refl, refl)
 
     module _ (not_nar : p ≡ 0x8000 → ⊥) where
-      pub whole-zero : 31743 < s → MeetsSided (whole_apart other p) (outright 0)
+      whole-zero : 31743 < s → MeetsSided (whole_apart other p) (outright 0)
       whole-zero k =
           let z = size_some p h not_nar (λ e. omega arith) in
           rw (le-leb 31744 (size 16 p) (omega arith), le-leb (size 16 p) 0x7fff (omega arith)) (refl, refl)
 
-      -- both by one test: d is s less 1, and the largest of 16 bits where s is 0
-      pub whole-or-zero : {d : ℕ} → (d + 1) % 2 ^ 16 ≡ s → d < 2 ^ 16 → 31742 < d → MeetsSided (whole_apart other p) (outright 0)
-      whole-or-zero wraps small k = go (dec_lt 31743 s)
-        where
-          go : Dec (31743 < s) → MeetsSided (whole_apart other p) (outright 0)
-          go (yes l) = whole-zero l
-          go (no l) = zero_itself (omega arith)
+      pub whole-or-zero : (31743 < s) ⊎ ((s ≤ 31743) × (s ≡ 0)) → MeetsSided (whole_apart other p) (outright 0)
+      whole-or-zero = ⊎_elim whole-zero (λ e. zero_itself e.1)
 
       pub sign-back : s ≤ 31743 → (s ≡ 0 → ⊥) → (x : ℕ) (u a : Sided) → x ≡ magnitude 1 16 s
           → MeetsSided (f x) u → a ≡ cond (ltb 0x8000 p) (negated_sided u) u → MeetsSided (whole_apart other p) a

@@ -1,11 +1,11 @@
 -- Row 7 is one of the rows by sign, and what it says of a remainder that the kernel takes.
-use Rattle.std.proofs.Common.{◌≡◌, ℕ, ◌-◌, ◌*◌, ◌/◌, ◌%◌, ◌^◌, ◌<◌, ◌≤◌, cond, eqb, pos, refl, ap, ◌∙◌, subst, mod-eq_of_lt, arith, le-ltb, lt-ltb, ne_eqb}
+use Rattle.std.proofs.Common.{◌≡◌, ℕ, ◌-◌, ◌*◌, ◌%◌, ◌^◌, ◌<◌, ◌≤◌, cond, eqb, pos, refl, ap, ◌∙◌, subst, mod-eq_of_lt, arith, le-ltb, lt-ltb, ne_eqb}
 use native.Mathlib.Decide.{dec_lt}
 use Rattle.posit.specs.Rounding.{over}
 use Rattle.posit.specs.Sides.{RoundsSided, negated_sided}
 use Rattle.posit.specs.declared.side.Sided.{Sided}
 use Rattle.rows.specs.Rows.{rounds, MeetsSided}
-use Rattle.circular.specs.Quadrants.{reflected}
+use Rattle.circular.specs.Quadrants.{quadrant, rest, reflected}
 use Rattle.circular.specs.TanPi.{poly, remainder, otherwise}
 use Rattle.circular.proofs.Rows.Odd.{Odd}
 use Rattle.rows.proofs.Signs.{opposed_sided}
@@ -29,15 +29,15 @@ module _ (r : ℕ) (a : r ≡ 0 → ⊥) (b : r ≡ 2 ^ 27 → ⊥) (c : r ≡ 2
       (opposed_sided (rounds (over (pos (poly (2 ^ 28 - r))) 28)) u (subst (λ (k : ℕ). RoundsSided 1 16 (over (pos k) 28) u) e h))
 
   -- on either side of a half: q is 1 past it, and there what is left of r is reflected and the sign changes
-  pub by_half : {q f : ℕ} → r < 2 ^ 28 → q ≡ r / 2 ^ 27 → f ≡ reflected q (r % 2 ^ 27) → m ≡ poly f
+  pub by_half : {q x f : ℕ} → r < 2 ^ 28 → q ≡ quadrant r → x ≡ rest r → f ≡ reflected q x → m ≡ poly f
       → MeetsSided (remainder r) (cond (eqb q 1) (negated_sided u) u)
-  by_half {q} h half f-is e = go (dec_lt r (2 ^ 27))
+  by_half {q} {x} h half left f-is e = go (dec_lt r (2 ^ 27))
     where
       go : Dec (r < 2 ^ 27) → MeetsSided (remainder r) (cond (eqb q 1) (negated_sided u) u)
       go (yes l) =
           let z : q ≡ 0 = omega arith in
-          rw z (below_half l (e ∙ ap poly ((rw z at f-is) ∙ mod-eq_of_lt l)))
+          rw z (below_half l (e ∙ ap poly ((rw z at f-is) ∙ left ∙ mod-eq_of_lt l)))
       go (no l) =
           let z : q ≡ 1 = omega arith in
-          let k : 2 ^ 27 - r % 2 ^ 27 ≡ 2 ^ 28 - r = omega arith in
+          let k : 2 ^ 27 - x ≡ 2 ^ 28 - r = omega arith in
           rw z (above_half (omega arith) (e ∙ ap poly ((rw z at f-is) ∙ k)))

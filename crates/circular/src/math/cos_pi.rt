@@ -3,6 +3,7 @@ ghost use Rattle.std.specs.Prelude.{◌≡◌, ◌*◌, ◌^◌, ◌<◌};
 ghost use Rattle.rows.specs.Rows.{Meets, MeetsSided};
 ghost use Rattle.circular.specs.CosPi.{poly, series, unsigned, cosine, row};
 
+use crate::quadrant::{Argument, Reduced};
 use posit::Sided;
 
 pub fn cos_pi_sided(p: u16) -> Sided
@@ -19,42 +20,38 @@ pub fn cos_pi_sided(p: u16) -> Sided
 pub fn cos_pi(p: u16) -> u16
     ensures { Meets (row p) result }
 {
-    let a = cos_pi_sided(p);
-    a.pattern
+    cos_pi_sided(p).pattern
 }
 
 // The cosine of x / 2^28 half-turns.
 fn cosine_of(x: u64) -> Sided
     ensures { MeetsSided (cosine x) result }
 {
-    let d = crate::quadrant::reduce(x);
-    let q = d.quadrant;
-    posit::signed_sided(2 <= (q + 1) % 4, unsigned_cosine(q, d.rest))
+    let angle = Reduced::of(x);
+    posit::signed_sided(2 <= (angle.quadrant + 1) % 4, unsigned_cosine(angle))
 }
 
-// The magnitude of the cosine in the quadrant q, from the rest r.
+// The magnitude of the cosine of the angle.
 #[tactic(auto, unfolding(crate::specs::CosPi::unsigned))]
-fn unsigned_cosine(q: u64, r: u64) -> Sided
-    requires { (q < 4) × (r < 2 ^ 27) }
-    ensures { MeetsSided (unsigned q r) result }
+fn unsigned_cosine(angle: Reduced) -> Sided
+    ensures { MeetsSided (unsigned angle.quadrant angle.rest) result }
 {
-    if r == 0 {
-        return posit::outright(if q % 2 == 1 { 0 } else { 0x4000 });
+    if angle.rest == 0 {
+        return posit::outright(if angle.quadrant % 2 == 1 { 0 } else { 0x4000 });
     }
-    let k = cos_poly(crate::quadrant::reflect(q, r)) % 0x0200_0000; // the remainder tells the compiler: below 1
-    posit::round_sided(k, -25)
+    let k = cos_poly(angle.reflected());
+    posit::round_sided(k % 0x0200_0000, -25) // the remainder tells the compiler: below 1
 }
 
 #[tactic(auto, unfolding(crate::specs::CosPi::poly))]
-fn cos_poly(f: u64) -> u64
-    requires { f < 2 ^ 27 }
-    ensures value { result ≡ poly f }
+fn cos_poly(f: Argument) -> u64
+    ensures value { result ≡ poly f.units }
     ensures upper_bound { result < 2 ^ 25 }
 {
-    if f < 0x000E_6001 {
+    if f.units < 0x000E_6001 {
         0x01FF_FFFF
     } else {
-        cos_series(f >> 11)
+        cos_series(f.units >> 11)
     }
 }
 

@@ -3,6 +3,7 @@ ghost use Rattle.std.specs.Prelude.{◌≡◌, ◌*◌, ◌^◌, ◌<◌};
 ghost use Rattle.rows.specs.Rows.{Meets, MeetsSided};
 ghost use Rattle.circular.specs.SinPi.{poly, series, unsigned, sine, row};
 
+use crate::quadrant::{Argument, Reduced};
 use posit::Sided;
 
 pub fn sin_pi_sided(p: u16) -> Sided
@@ -10,7 +11,7 @@ pub fn sin_pi_sided(p: u16) -> Sided
 {
     let negative = 0x7fff < p;
     let size = posit::signed(negative, p);
-    if 31742 < std::num::wrapping_sub_u16(size, 1) {
+    if 31742 < size.wrapping_sub(1) {
         return posit::outright(if p == 0x8000 { 0x8000 } else { 0 }); // x is a whole number, zero among them, or NaR
     }
     posit::signed_sided(negative, sine_of(posit::units(size)))
@@ -20,40 +21,36 @@ pub fn sin_pi_sided(p: u16) -> Sided
 pub fn sin_pi(p: u16) -> u16
     ensures { Meets (row p) result }
 {
-    let a = sin_pi_sided(p);
-    a.pattern
+    sin_pi_sided(p).pattern
 }
 
 // The sine of x / 2^28 half-turns.
 fn sine_of(x: u64) -> Sided
     ensures { MeetsSided (sine x) result }
 {
-    let d = crate::quadrant::reduce(x);
-    let q = d.quadrant;
-    posit::signed_sided(2 <= q, unsigned_sine(q, d.rest))
+    let angle = Reduced::of(x);
+    posit::signed_sided(2 <= angle.quadrant, unsigned_sine(angle))
 }
 
-// The magnitude of the sine in the quadrant q, from the rest r.
+// The magnitude of the sine of the angle.
 #[tactic(auto, unfolding(crate::specs::SinPi::unsigned))]
-fn unsigned_sine(q: u64, r: u64) -> Sided
-    requires { (q < 4) × (r < 2 ^ 27) }
-    ensures { MeetsSided (unsigned q r) result }
+fn unsigned_sine(angle: Reduced) -> Sided
+    ensures { MeetsSided (unsigned angle.quadrant angle.rest) result }
 {
-    if r == 0 {
-        return posit::outright(if q % 2 == 1 { 0x4000 } else { 0 });
+    if angle.rest == 0 {
+        return posit::outright(if angle.quadrant % 2 == 1 { 0x4000 } else { 0 });
     }
-    posit::round_sided(sin_poly(crate::quadrant::reflect(q, r)), -28)
+    posit::round_sided(sin_poly(angle.reflected()), -28)
 }
 
 #[tactic(auto, unfolding(crate::specs::SinPi::poly))]
-fn sin_poly(f: u64) -> u64
-    requires { f < 2 ^ 27 }
-    ensures { result ≡ poly f }
+fn sin_poly(f: Argument) -> u64
+    ensures { result ≡ poly f.units }
 {
-    if f < 0x000A_5801 {
-        (f * 102_943) >> 15
+    if f.units < 0x000A_5801 {
+        (f.units * 102_943) >> 15
     } else {
-        sin_series(f >> 11)
+        sin_series(f.units >> 11)
     }
 }
 

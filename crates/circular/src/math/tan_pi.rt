@@ -3,6 +3,7 @@ ghost use Rattle.std.specs.Prelude.{◌≡◌, ◌*◌, ◌^◌, ◌<◌, ◌≤
 ghost use Rattle.rows.specs.Rows.{Meets, MeetsSided};
 ghost use Rattle.circular.specs.TanPi.{poly, denominator, numerator, remainder, row};
 
+use crate::quadrant::{Argument, Reduced};
 use posit::Sided;
 
 pub fn tan_pi_sided(p: u16) -> Sided
@@ -13,11 +14,8 @@ pub fn tan_pi_sided(p: u16) -> Sided
     }
     let negative = 0x7fff < p;
     let size = posit::signed(negative, p);
-    if 31743 < size {
-        return posit::outright(0); // x is a whole number
-    }
-    if size == 0 {
-        return posit::outright(0);
+    if 31743 < size || size == 0 {
+        return posit::outright(0); // x is a whole number, zero among them
     }
     posit::signed_sided(negative, tangent(posit::units(size) % 0x1000_0000))
 }
@@ -26,8 +24,7 @@ pub fn tan_pi_sided(p: u16) -> Sided
 pub fn tan_pi(p: u16) -> u16
     ensures { Meets (row p) result }
 {
-    let a = tan_pi_sided(p);
-    a.pattern
+    tan_pi_sided(p).pattern
 }
 
 // The tangent of r / 2^28 half-turns. At a half there is none; past it the argument is reflected, and the sign changes.
@@ -36,35 +33,30 @@ fn tangent(r: u64) -> Sided
     requires { r < 2 ^ 28 }
     ensures { MeetsSided (remainder r) result }
 {
-    if r == 0 {
-        return posit::outright(0);
+    match r {
+        0 => posit::outright(0),
+        0x0400_0000 => posit::outright(0x4000),
+        0x0800_0000 => posit::outright(0x8000),
+        0x0C00_0000 => posit::outright(0xC000),
+        _ => {
+            let angle = Reduced::of(r);
+            let k = tan_poly(angle.reflected());
+            let size = posit::round_sided(k % 0x2_0000_0000_0000, -28); // the remainder tells the compiler: below 2^49
+            posit::signed_sided(angle.quadrant == 1, size)
+        }
     }
-    if r == 0x0800_0000 {
-        return posit::outright(0x8000);
-    }
-    if r == 0x0400_0000 {
-        return posit::outright(0x4000);
-    }
-    if r == 0x0C00_0000 {
-        return posit::outright(0xC000);
-    }
-    let past = r >> 27;
-    let k = tan_poly(crate::quadrant::reflect(past, r % 0x0800_0000));
-    let size = posit::round_sided(k % 0x2_0000_0000_0000, -28); // the remainder tells the compiler: below 2^49
-    posit::signed_sided(past == 1, size)
 }
 
-// Safe for arguments above 0 and below 2^27, where the denominator stays above zero.
+// Safe within a quarter turn, where the denominator stays above zero.
 #[tactic(auto, unfolding(crate::specs::TanPi::poly))]
-fn tan_poly(f: u64) -> u64
-    requires { (0 < f) × (f < 2 ^ 27) }
-    ensures value { result ≡ poly f }
+fn tan_poly(f: Argument) -> u64
+    ensures value { result ≡ poly f.units }
     ensures upper_bound { result < 2 ^ 49 }
 {
-    if f < 0xE001 {
-        return (f * 102_943) >> 15;
+    if f.units < 0xE001 {
+        return (f.units * 102_943) >> 15;
     }
-    let fs = (f >> 9) % 0x4_0000; // the remainder tells the compiler: of 18 bits
+    let fs = (f.units >> 9) % 0x4_0000; // the remainder tells the compiler: of 18 bits
     tan_numerator(fs) / tan_denominator(fs)
 }
 

@@ -1,13 +1,14 @@
 -- What rows 1 and 2 say, case by case, over the four numbers in which they differ; and the floors of their kernels.
 use Prim.Native.Nat.{ℕ, suc, ◌+◌, ◌-◌, ◌*◌, ◌/◌, ◌%◌, ◌^◌, ◌≤◌, ◌<◌}
-use mathlib.Core.Path.{◌≡◌, ◌∙◌, ap, sym, subst}
-use mathlib.Core.Logic.{◌⊎◌, ⊎_elim}
+use mathlib.Core.Path.{◌≡◌, ◌∙◌, ap, sym, subst, refl}
+use mathlib.Core.Logic.{◌⊎◌, inl, inr, ⊎_elim}
 use mathlib.Core.Bool.{cond}
 use native.Mathlib.Omega.{arith}
 use native.Mathlib.Decide.{dec_lt}
 use native.Mathlib.Nat.{mod-eq_of_lt}
 use borrow.Author.Tests.{lt-ltb, le-ltb, le-leb, lt-leb}
 use lib.Dec.{ltb}
+use Rattle.std.specs.Prelude.{Some, None}
 use lib.IntN.{ℤ, pos, negsuc, ◌+ℤ◌, ◌-ℤ◌, +ℤ_assoc}
 use lib.Signed.{mag}
 use mir.Syntax.{w32}
@@ -21,7 +22,7 @@ use Rattle.posit.proofs.Complement.{opposite_is}
 use Rattle.posit.proofs.Patterns.{number_nar, number-signed}
 use Rattle.rows.specs.Floor.{floor, modulo}
 use Rattle.rows.specs.Rows.{names, rounds, MeetsSided}
-use Rattle.exponential.specs.Ends.{ends, beyond, otherwise}
+use Rattle.exponential.specs.Ends.{ends, beyond, otherwise, named}
 use Rattle.rows.proofs.Sizes.{no_farther, sign_bit, size_by_bit}
 use Rattle.rows.proofs.Whole.{Floors, floors, moved_back}
 
@@ -140,6 +141,34 @@ module _ {a b c d : ℕ} (o : Ordered a b c d) (p s : ℕ) (some : 0 < p) (small
       go : Dec (0x7fff < p) → d < p
       go (yes k) = let e = minus k in omega arith
       go (no k) = let e = plus (omega arith) in absurd (omega arith)
+
+-- what is named outright without the kernel, and what is left to it
+module _ {a b c d : ℕ} (o : Ordered a b c d) (p : ℕ) (small : p < 0x10000) where
+  abbrev s : ℕ
+  s = cond (ltb 0x7fff p) (opposite 16 p) p
+
+  pub named_is : (kernel : ℤ → Known) (u : ℕ) → named a b c p ≡ Some u → ends a b c d kernel p ≡ names u
+  named_is kernel u e = go (dec_lt p a) (dec_lt b p) (dec_lt s c)
+    where
+      go : Dec (p < a) → Dec (b < p) → Dec (s < c) → ends a b c d kernel p ≡ names u
+      go (yes h) l k = let n = near_one o kernel p (inl h) in let f = rw (lt-ltb p a h) at e in cc
+      go (no h) (yes l) k = let n = near_one o kernel p (inr l) in let f = rw (le-ltb p a (omega arith), lt-ltb b p l) at e in cc
+      go (no h) (no l) (yes k) = let f = rw (le-ltb p a (omega arith), le-ltb b p (omega arith), lt-leb c s k) at e in cc
+      go (no h) (no l) (no k) =
+          let n = past_both o p s (omega arith) small refl kernel (omega arith) in
+          let f = rw (le-ltb p a (omega arith), le-ltb b p (omega arith), le-leb c s (omega arith)) at e in
+          cc
+
+  pub none_named : named a b c p ≡ None → (a ≤ p) × (p ≤ b) × (c ≤ p → d < p)
+  none_named e = go (dec_lt p a) (dec_lt b p) (dec_lt s c)
+    where
+      go : Dec (p < a) → Dec (b < p) → Dec (s < c) → (a ≤ p) × (p ≤ b) × (c ≤ p → d < p)
+      go (yes h) l k = let f = rw (lt-ltb p a h) at e in cc
+      go (no h) (yes l) k = let f = rw (le-ltb p a (omega arith), lt-ltb b p l) at e in cc
+      go (no h) (no l) (yes k) = (omega arith, omega arith, past_neither o p s (omega arith) small refl k)
+      go (no h) (no l) (no k) =
+          let f = rw (le-ltb p a (omega arith), le-ltb b p (omega arith), le-leb c s (omega arith)) at e in
+          cc
 
 -- z + 32 * M * m is t: what is rounded, by the floor of floor(z / m) / M and the rest, is known by those of t
 module _ (z : ℤ) (m M t : ℕ) (some : 0 < m) (more : 0 < M) (moved : z +ℤ pos (32 * M * m) ≡ pos t) where

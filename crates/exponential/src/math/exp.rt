@@ -8,29 +8,22 @@ use posit::Sided;
 pub fn exp_sided(p: u16) -> Sided
     ensures { MeetsSided (row p) result }
 {
-    if p < 192 {
-        return posit::outright(0x4000); // so near to zero that the answer is 1
+    match crate::ends::named::<192, 65407, 28846>(p) {
+        Some(answer) => posit::outright(answer),
+        None => kernel(p),
     }
-    if 65407 < p {
-        return posit::outright(0x4000);
-    }
-    if 28845 < posit::signed(0x7fff < p, p) {
-        return posit::outright(crate::ends::saturated(p));
-    }
-    kernel(p)
 }
 
 // The pattern alone.
 pub fn exp(p: u16) -> u16
     ensures { Meets (row p) result }
 {
-    let a = exp_sided(p);
-    a.pattern
+    exp_sided(p).pattern
 }
 
 // t is x / ln 2 + 32 with 25 bits of fraction, after 28 bits that are dropped.
 fn kernel(p: u16) -> Sided
-    requires { (192 ≤ p) × (p ≤ 65407) × (28845 < p → 36691 ≤ p) }
+    requires { (192 ≤ p) × (p ≤ 65407) × (28846 ≤ p → 36690 < p) }
     ensures { MeetsSided (row p) result }
 {
     let negative = 0x7fff < p;

@@ -8,29 +8,22 @@ use posit::Sided;
 pub fn exp2_sided(p: u16) -> Sided
     ensures { MeetsSided (row p) result }
 {
-    if p < 221 {
-        return posit::outright(0x4000); // so near to zero that the answer is 1
+    match crate::ends::named::<221, 65379, 29377>(p) {
+        Some(answer) => posit::outright(answer),
+        None => kernel(p),
     }
-    if 65379 < p {
-        return posit::outright(0x4000);
-    }
-    if 29376 < posit::signed(0x7fff < p, p) {
-        return posit::outright(crate::ends::saturated(p));
-    }
-    kernel(p)
 }
 
 // The pattern alone.
 pub fn exp2(p: u16) -> u16
     ensures { Meets (row p) result }
 {
-    let a = exp2_sided(p);
-    a.pattern
+    exp2_sided(p).pattern
 }
 
 // t is x + 32 in units of 2^-28: floor(x) stands above bit 28, and 20 bits of what is left above bit 8.
 fn kernel(p: u16) -> Sided
-    requires { (221 ≤ p) × (p ≤ 65379) × (29376 < p → 36160 ≤ p) }
+    requires { (221 ≤ p) × (p ≤ 65379) × (29377 ≤ p → 36159 < p) }
     ensures { MeetsSided (row p) result }
 {
     let negative = 0x7fff < p;

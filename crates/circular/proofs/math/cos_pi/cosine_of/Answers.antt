@@ -7,7 +7,7 @@ use Rattle.circular.proofs.math.cos_pi.cosine_of.Goals as goal
 pub returns : goal.returns
 unfolding cosine
 returns c =
-    let d = c.reduce-d in
+    let a = c.of-angle in
     let u = c.unsigned_cosine in
     quadrant_sign (λ q. leb 2 ((q + 1) % 4)) unsigned c.args.x
-    d.result.quadrant d.result.rest u.result c.signed_sided.result d.ensures.0 d.ensures.1 u.ensures c.signed_sided.ensures
+    a.result.quadrant a.result.rest u.result c.signed_sided.result a.ensures.0 a.ensures.1 u.ensures c.signed_sided.ensures

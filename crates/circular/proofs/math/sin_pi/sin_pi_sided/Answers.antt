@@ -4,22 +4,21 @@ use Rattle.posit.specs.Number.{size}
 use Rattle.posit.specs.Sides.{negated_sided}
 use Rattle.rows.proofs.Sizes.{sign_bit, size_by_bit}
 use Rattle.circular.specs.SinPi.{row}
-use Rattle.circular.proofs.Rows.Odd.{nar_itself, whole-or-zero, sign-back}
+use Rattle.circular.proofs.Rows.Odd.{by_less, nar_itself, whole-or-zero, sign-back}
 use Rattle.circular.proofs.Rows.SinPi.{sine-odd}
 use Rattle.circular.proofs.math.sin_pi.sin_pi_sided.Goals as goal
 use Rattle.circular.proofs.math.sin_pi.sin_pi_sided.Goals.{then-p-eq32768, else-p-eq32768}
 
-pub returns-then-wrapping_sub_u16-gt31742 : goal.returns-then-wrapping_sub_u16-gt31742
+pub returns-then-size-gt31742 : goal.returns-then-size-gt31742
 unfolding row
-returns-then-wrapping_sub_u16-gt31742 c =
+returns-then-size-gt31742 c =
     let p = c.args.p in
     let s = c.signed-size in
-    let d = c.wrapping_sub_u16 in
     elim c.if-p-eq32768.branch [
       | then-p-eq32768 w ↦ rw (c.outright.ensures, w.outright-is) (nar_itself sine-odd p w.if-p-eq32768.true)
       | else-p-eq32768 w ↦ rw (c.outright.ensures, w.outright-is)
-          (whole-or-zero sine-odd p (omega arith) s.result (s.ensures ∙ size_by_bit p) w.if-p-eq32768.false d.ensures.value (omega arith)
-          c.if-wrapping_sub_u16-gt31742.true)
+          (whole-or-zero sine-odd p (omega arith) s.result (s.ensures ∙ size_by_bit p) w.if-p-eq32768.false
+          (by_less s.result (omega arith) c.if-size-gt31742.true))
     ]
 
 pub returns : goal.returns

@@ -7,7 +7,7 @@ use Rattle.circular.proofs.math.sin_pi.sine_of.Goals as goal
 pub returns : goal.returns
 unfolding sine
 returns c =
-    let d = c.reduce-d in
+    let a = c.of-angle in
     let u = c.unsigned_sine in
     quadrant_sign (leb 2) unsigned c.args.x
-    d.result.quadrant d.result.rest u.result c.signed_sided.result d.ensures.0 d.ensures.1 u.ensures c.signed_sided.ensures
+    a.result.quadrant a.result.rest u.result c.signed_sided.result a.ensures.0 a.ensures.1 u.ensures c.signed_sided.ensures

@@ -3,7 +3,7 @@ use Rattle.std.proofs.Common.{Bool, cond, ap, ◌∙◌, arith}
 use Rattle.posit.specs.Sides.{negated_sided}
 use Rattle.rows.proofs.Sizes.{sign_bit, size_by_bit}
 use Rattle.circular.specs.TanPi.{row}
-use Rattle.circular.proofs.Rows.Odd.{nar_itself, zero_itself, whole-zero, sign-back}
+use Rattle.circular.proofs.Rows.Odd.{nar_itself, whole-or-zero, sign-back}
 use Rattle.circular.proofs.Rows.TanPi.{tangent_odd}
 use Rattle.circular.proofs.math.tan_pi.tan_pi_sided.Goals as goal
 
@@ -16,15 +16,8 @@ unfolding row
 returns-then-size-gt31743 c =
     let s = c.signed-size in
     rw c.outright-then-size-gt31743.ensures
-    (whole-zero tangent_odd c.args.p (omega arith) s.result (s.ensures ∙ size_by_bit c.args.p) c.if-p-eq32768.false
-    c.if-size-gt31743.true)
-
-pub returns-then-size-eq0 : goal.returns-then-size-eq0
-unfolding row
-returns-then-size-eq0 c =
-    let s = c.signed-size in
-    rw c.outright-then-size-eq0.ensures
-    (zero_itself tangent_odd c.args.p (omega arith) s.result (s.ensures ∙ size_by_bit c.args.p) c.if-size-eq0.true)
+    (whole-or-zero tangent_odd c.args.p (omega arith) s.result (s.ensures ∙ size_by_bit c.args.p) c.if-p-eq32768.false
+    c.then-size-gt31743.either)
 
 pub returns : goal.returns
 unfolding row

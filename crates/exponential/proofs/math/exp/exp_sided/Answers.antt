@@ -1,20 +1,12 @@
--- Near zero the answer is 1 and past the ends that of `saturated`, each named outright, and else it is the kernel's.
-use Rattle.std.proofs.Common.{rules, arith, inl, inr}
+-- What is named outright is what the row names, and what is left is the kernel's.
+use Rattle.std.proofs.Common.{rules, sym}
 use Rattle.exponential.specs.Exp.{kernel}
-use Rattle.exponential.proofs.Rows.Ends.{near_one, past_both, past_neither}
+use Rattle.exponential.proofs.Rows.Ends.{named_is, none_named}
 use Rattle.exponential.proofs.Rows.Exp.{ordered}
 use Rattle.exponential.proofs.math.exp.exp_sided.Goals as goal
 
-pub returns-then-p-lt192 : goal.returns-then-p-lt192
-returns-then-p-lt192 c = rw (near_one ordered kernel c.args.p (inl c.if-p-lt192.true)) (search rules)
-
-pub returns-then-p-gt65407 : goal.returns-then-p-gt65407
-returns-then-p-gt65407 c = rw (near_one ordered kernel c.args.p (inr c.if-p-gt65407.true)) (search rules)
-
-pub returns-then-signed-gt28845 : goal.returns-then-signed-gt28845
-returns-then-signed-gt28845 c =
-    rw (past_both ordered c.args.p c.signed.result (omega arith) (omega arith) c.signed.ensures kernel (omega arith)) (search rules)
-
 pub kernel-requires : goal.kernel-requires
-kernel-requires c =
-    (search rules, search rules, past_neither ordered c.args.p c.signed.result (omega arith) (omega arith) c.signed.ensures (omega arith))
+kernel-requires c = none_named ordered c.args.p c.ranges.p.fits (sym c.in-None.ensures)
+
+pub returns-in-Some : goal.returns-in-Some
+returns-in-Some c = rw (named_is ordered c.args.p c.ranges.p.fits kernel c.in-Some.answer (sym c.in-Some.ensures)) (search rules)

@@ -10,7 +10,7 @@ use Rattle.exponential.proofs.Rows.Ends.{Between, nearest, kernel_sided}
 use Rattle.exponential.proofs.Rows.Exp.{ordered, kernel_moved}
 use Rattle.exponential.proofs.math.exp.kernel.Goals as goal
 
-between : {p s x : ℕ} → (192 ≤ p) × (p ≤ 65407) × (28845 < p → 36691 ≤ p) → s ≡ cond (ltb 0x7fff p) (opposite 16 p) p → x ≡ magnitude 1 16 s
+between : {p s x : ℕ} → (192 ≤ p) × (p ≤ 65407) × (28846 ≤ p → 36690 < p) → s ≡ cond (ltb 0x7fff p) (opposite 16 p) p → x ≡ magnitude 1 16 s
     → Between 192 65407 28846 36690 p s x
 between h signed units = record { least = h.0; most = h.1; out = h.2; signed = signed; units = units }
 

@@ -7,7 +7,7 @@ use Rattle.exponential.proofs.Rows.Ends.{Between, nearest, kernel_sided}
 use Rattle.exponential.proofs.Rows.Exp2.{ordered, kernel_moved}
 use Rattle.exponential.proofs.math.exp2.kernel.Goals as goal
 
-between : {p s x : ℕ} → (221 ≤ p) × (p ≤ 65379) × (29376 < p → 36160 ≤ p) → s ≡ cond (ltb 0x7fff p) (opposite 16 p) p → x ≡ magnitude 1 16 s
+between : {p s x : ℕ} → (221 ≤ p) × (p ≤ 65379) × (29377 ≤ p → 36159 < p) → s ≡ cond (ltb 0x7fff p) (opposite 16 p) p → x ≡ magnitude 1 16 s
     → Between 221 65379 29377 36159 p s x
 between h signed units = record { least = h.0; most = h.1; out = h.2; signed = signed; units = units }
 
