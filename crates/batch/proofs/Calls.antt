@@ -9,11 +9,12 @@ use native.Mathlib.Nat.{zero-add}
 use lib.ListN.{length, take, drop, get_or, length-map}
 use lib.Seq.{paste, paste-zero, length-paste, take-add, take_all}
 use Rattle.p16e1.specs.Functions.{known, answer_of}
-use Rattle.batch.specs.Batch.{refusal_of, answers, nars_in, batched_of, output_of}
-use Rattle.refusals.specs.declared.Refusal.TheVariants.{None}
-use Rattle.batch.proofs.Places.{nars_append}
+use Rattle.batch.specs.Batch.{refusal_of, answers, nars_in, batched_of, output_of, next_after, nars_of}
+use Rattle.std.specs.Prelude.{None}
+use Rattle.std.proofs.lemmas.List.{drop-map}
+use Rattle.std.proofs.lemmas.List.Sums.{sum_by-append}
 use Rattle.batch.proofs.Order.{not_refused}
-use Rattle.batch.proofs.Parts.{map-drop, paste_more_in_front}
+use Rattle.batch.proofs.Parts.{paste_more_in_front}
 
 -- where a chain stands: the next place, the sum of the tallies, and the output
 pub record Chain : Type 0 where
@@ -27,7 +28,7 @@ first output = record { next = 0; nars = 0; output = output }
 abbrev pub call : ℕ → List ℕ → Chain → ℕ → Chain
 call f input s limit =
     let r = batched_of f input (length s.output) s.next limit in
-    record { next = r.next; nars = s.nars + r.nars; output = output_of f input s.output s.next limit }
+    record { next = next_after s.next r; nars = s.nars + nars_of r; output = output_of f input s.output s.next limit }
 
 abbrev pub calls : ℕ → List ℕ → Chain → List ℕ → Chain
 calls f input s [] = s
@@ -74,9 +75,9 @@ module _ (f : ℕ) (input output : List ℕ) (knows : known f ≡ true) (room : 
           within = omega (arith, moved);
           written =
               simp accepted
-              (rw (a.written, map-drop (answer_of f) p input)
+              (rw (a.written, ← drop-map (answer_of f) p input)
               (paste_more_in_front output (answers f input 0) p n (omega (arith, a.within, all-answers))));
-          counted = simp (accepted, a.counted, map-drop, take-add, nars_append);
+          counted = simp (accepted, a.counted, drop-map, take-add, sum_by-append);
         }
 
   from : (s : Chain) → Answered f input output s → (limits : List ℕ)

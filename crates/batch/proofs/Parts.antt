@@ -1,16 +1,11 @@
 -- A part pasted right after a part: together they are one part.
-use Prim.Native.Nat.{ℕ, zero, suc, ◌+◌, ◌≤◌}
-use mathlib.Core.Path.{◌≡◌, refl, sym, ap, subst, ◌∙◌}
-use mathlib.Core.List.{List, [], ◌∷◌, map, append_assoc}
+use Prim.Native.Nat.{ℕ, ◌+◌, ◌≤◌}
+use mathlib.Core.Path.{◌≡◌, sym, ap, subst, ◌∙◌}
+use mathlib.Core.List.{List, append_assoc}
 use native.Mathlib.Omega.{arith}
 use native.Mathlib.Nat.{add_assoc, zero-add}
 use lib.ListN.{length, drop}
 use lib.Seq.{paste, take-paste, drop-paste, drop-drop, take-add}
-
-pub map-drop : (g : ℕ → ℕ) (a : ℕ) (l : List ℕ) → map g (drop a l) ≡ drop a (map g l)
-map-drop g zero l = refl
-map-drop g (suc a) [] = refl
-map-drop g (suc a) (x ∷ xs) = map-drop g a xs
 
 paste_more : (d : List ℕ) (at : ℕ) (s : List ℕ) (a b : ℕ) → at ≤ length d → a ≤ length s
     → paste (paste d at s a) (at + a) (drop a s) b ≡ paste d at s (a + b)

@@ -6,53 +6,38 @@ mod fill;
 ghost use Rattle.std.specs.Prelude.{◌≡◌, length};
 ghost use Rattle.batch.specs.Batch.{batched_of, output_of};
 
+use p16e1::Function;
 use refusals::Refusal;
 
-// What a call did: the place to go on from, how many NaR it wrote, and why it was refused, if it was.
-#[derive(Clone, Copy)]
+// What a call did: the place to go on from, and how many NaR it wrote.
+#[derive(Clone, Copy, Debug, PartialEq, Eq)]
 pub struct Batched {
     pub next: usize,
     pub nars: usize,
-    pub refusal: Refusal,
 }
 
 // Writes the function's answers to the patterns of `input` from the place `start` on, at most `limit` of them, each at its
-// own place in `output`. A refused call writes nothing, and its next place is its start.
+// own place in `output`. A refused call writes nothing.
+#[tactic(auto, using(p16e1::proofs::ByNumber::numbered_is, p16e1::proofs::ByNumber::numbered_not), unfolding(crate::specs::Batch::refusal_of))]
 pub fn batch(
     function: u16,
     input: &[u16],
     output: &mut [u16],
     start: usize,
     limit: usize,
-) -> Batched
+) -> Result<Batched, Refusal>
     ensures value { result ≡ batched_of function input.now (length output.old) start limit }
     ensures output_after { output.new ≡ output_of function input.now output.old start limit }
 {
-    if !p16e1::is_known(function) {
-        return refused(start, Refusal::Function);
-    }
+    let function = Function::try_from(function)?;
     if output.len() < input.len() {
-        return refused(start, Refusal::Output);
+        return Err(Refusal::Output);
     }
     if input.len() < start {
-        return refused(start, Refusal::Start);
+        return Err(Refusal::Start);
     }
-    let n = fill::smaller(limit, input.len() - start);
-    let nars = fill::fill(function, input, output, start, n);
+    let n = limit.min(input.len() - start);
     let next = start + n;
-    Batched {
-        next,
-        nars,
-        refusal: Refusal::None,
-    }
-}
-
-fn refused(start: usize, refusal: Refusal) -> Batched
-    ensures { result ≡ record { next = start; nars = 0; refusal = refusal } }
-{
-    Batched {
-        next: start,
-        nars: 0,
-        refusal,
-    }
+    let nars = fill::fill(function, &input[start..next], &mut output[start..next]);
+    Ok(Batched { next, nars })
 }

@@ -1,6 +1,12 @@
 // The calls that are made, by number: each length with each output, function, start and limit.
 pub const COUNT: usize = 7 * 3 * 6 * 9 * 7;
 
+const LENGTHS: [usize; 7] = [0, 1, 2, 1023, 1024, 1025, 4096];
+
+const FUNCTIONS: [u16; 6] = [0, 1, 2, 10, 11, 65535];
+
+const LIMITS: [usize; 7] = [0, 1, 2, 3, 7, 1000, usize::MAX];
+
 #[derive(Clone, Copy)]
 pub struct Case {
     pub length: usize,
@@ -10,99 +16,36 @@ pub struct Case {
     pub limit: usize,
 }
 
-#[derive(Clone, Copy)]
-pub enum Tried {
-    Call(Case),
-    Nothing,
-}
-
-#[derive(Clone, Copy)]
-enum Place {
-    At(usize),
-    Nowhere,
-}
-
 // There is nothing to call where the output or the start would lie below zero.
-pub fn numbered(k: usize) -> Tried {
-    let length = length(k / 1134 % 7);
-    let Place::At(room) = room(k / 378 % 3, length) else {
-        return Tried::Nothing;
-    };
-    let Place::At(start) = start(k / 7 % 9, length) else {
-        return Tried::Nothing;
-    };
-    Tried::Call(Case {
+pub fn numbered(k: usize) -> Option<Case> {
+    let length = LENGTHS[k / 1134 % 7];
+    Some(Case {
         length,
-        room,
-        function: function(k / 63 % 6),
-        start,
-        limit: limit(k % 7),
+        room: room(k / 378 % 3, length)?,
+        function: FUNCTIONS[k / 63 % 6],
+        start: start(k / 7 % 9, length)?,
+        limit: LIMITS[k % 7],
     })
 }
 
-fn length(i: usize) -> usize {
-    match i {
-        0 => 0,
-        1 => 1,
-        2 => 2,
-        3 => 1023,
-        4 => 1024,
-        5 => 1025,
-        _ => 4096,
-    }
-}
-
 // The output: longer than the input, equal, shorter.
-fn room(i: usize, length: usize) -> Place {
+fn room(i: usize, length: usize) -> Option<usize> {
     match i {
-        0 => moved(length, 3, 0),
-        1 => moved(length, 0, 0),
-        _ => moved(length, 0, 1),
-    }
-}
-
-fn function(i: usize) -> u16 {
-    match i {
-        0 => 0,
-        1 => 1,
-        2 => 2,
-        3 => 10,
-        4 => 11,
-        _ => 65535,
+        0 => length.checked_add(3),
+        1 => Some(length),
+        _ => length.checked_sub(1),
     }
 }
 
 // The starts around both ends, and the largest.
-fn start(i: usize, length: usize) -> Place {
+fn start(i: usize, length: usize) -> Option<usize> {
     match i {
-        0 => Place::At(0),
-        1 => Place::At(1),
-        2 => Place::At(2),
-        3 => moved(length, 0, 2),
-        4 => moved(length, 0, 1),
-        5 => moved(length, 0, 0),
-        6 => moved(length, 1, 0),
-        7 => moved(length, 2, 0),
-        _ => Place::At(18446744073709551615),
+        0..=2 => Some(i),
+        3 => length.checked_sub(2),
+        4 => length.checked_sub(1),
+        5 => Some(length),
+        6 => length.checked_add(1),
+        7 => length.checked_add(2),
+        _ => Some(usize::MAX),
     }
-}
-
-fn limit(i: usize) -> usize {
-    match i {
-        0 => 0,
-        1 => 1,
-        2 => 2,
-        3 => 3,
-        4 => 7,
-        5 => 1000,
-        _ => 18446744073709551615,
-    }
-}
-
-fn moved(from: usize, up: usize, down: usize) -> Place {
-    let to = from.wrapping_add(up);
-    if to < down {
-        return Place::Nowhere;
-    }
-    Place::At(to - down)
 }

@@ -1,47 +1,21 @@
 // The batch beside a plain loop: after each call every place of the output and every number of the result are compared.
 #![tactic(auto)]
 
-ghost use Rattle.std.specs.Prelude.{◌≡◌, length};
-
-use std::io;
+use std::{array, io};
 
 mod cases;
 mod plain;
 
+use cases::Case;
+
 fn main(rt: HostRuntime) -> io::Result<()> {
-    let input = patterns();
-    let mut calls: u64 = 0;
-    let mut differ: u64 = 0;
-    let mut k: usize = 0;
-    while k < cases::COUNT {
-        let one = try_case(k, &input);
-        calls = calls.wrapping_add(one.calls);
-        differ = differ.wrapping_add(one.differ);
-        k += 1;
-    }
-    print(&rt, calls, differ)
-}
-
-#[derive(Clone, Copy)]
-struct Tally {
-    calls: u64,
-    differ: u64,
-}
-
-fn print(rt: &impl Print, calls: u64, differ: u64) -> io::Result<()> {
+    let input = array::from_fn(pattern);
+    let calls = (0..cases::COUNT).filter_map(cases::numbered).count();
+    let differ = (0..cases::COUNT)
+        .filter_map(cases::numbered)
+        .filter(|case| !agrees(*case, &input))
+        .count();
     println!(rt; "{calls} calls, {differ} differ")
-}
-
-fn patterns() -> [u16; 4096]
-    ensures { 4096 ≡ length result }
-{
-    let mut input = [0u16; 4096];
-    let mut i: usize = 0;
-    while i < 4096 {
-        input[i] = pattern(i);
-        i += 1;
-    }
-    input
 }
 
 // Patterns of all kinds: every fifth is NaR, every fifth is zero, and the others are spread over the rest.
@@ -53,61 +27,17 @@ fn pattern(i: usize) -> u16 {
     }
 }
 
-fn try_case(k: usize, input: &[u16]) -> Tally {
-    let cases::Tried::Call(c) = cases::numbered(k) else {
-        return Tally {
-            calls: 0,
-            differ: 0,
-        };
-    };
-    if agrees(c, input) {
-        return Tally {
-            calls: 1,
-            differ: 0,
-        };
-    }
-    Tally {
-        calls: 1,
-        differ: 1,
-    }
-}
-
 // Makes the call over a poisoned output. A case that is too long for the arrays agrees with nothing.
-fn agrees(c: cases::Case, input: &[u16]) -> bool {
-    let length = c.length;
-    let room = c.room;
-    if input.len() < length {
+fn agrees(c: Case, input: &[u16; 4096]) -> bool {
+    let Some(input) = input.get(..c.length) else {
         return false;
-    }
-    if 4096 < length {
+    };
+    let mut output = plain::POISONED;
+    let Some(room) = output.get_mut(..c.room) else {
         return false;
-    }
-    if 4099 < room {
-        return false;
-    }
-    let mut output = plain::poisoned();
-    let got = batch::batch(
-        c.function,
-        &input[..length],
-        &mut output[..room],
-        c.start,
-        c.limit,
-    );
-    let mut want = plain::poisoned();
-    let plain = plain::called(c, &input[..length], &mut want);
-    if !same_result(got, plain) {
-        return false;
-    }
-    plain::same(&output, &want)
-}
-
-fn same_result(got: batch::Batched, want: plain::Plain) -> bool {
-    let why = got.refusal;
-    if refusals::number(why) != want.refusal {
-        return false;
-    }
-    if got.next != want.next {
-        return false;
-    }
-    got.nars == want.nars
+    };
+    let got = batch::batch(c.function, input, room, c.start, c.limit);
+    let mut want = plain::POISONED;
+    let plain = plain::called(c, input, &mut want);
+    got.map_err(u16::from) == plain && output == want
 }

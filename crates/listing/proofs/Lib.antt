@@ -1,3 +1,5 @@
+pub mod Known
+pub mod Pairs
 pub mod Writing
 pub mod Counts
 pub mod Calls

@@ -2,7 +2,7 @@
 -- bytes of a listing and of its answered form.
 use Rattle.std.specs.Prelude.{ℕ, ◌+◌, ◌*◌, List, [], ◌∷◌, ◌++◌, map}
 use Rattle.p16e1.specs.Functions.{answer_of}
-use Rattle.words.specs.Numbers.{numbers_at}
+use Rattle.words.specs.Numbers.{number_at_of, numbers_at}
 use Rattle.sections.specs.Sections.{section}
 
 -- all of the first function's answers, then the next's
@@ -19,3 +19,7 @@ answered fs ps = listing fs ps ++ section (answers fs ps)
 -- the answers, by how many functions and patterns stand in the two sections
 abbrev pub answers_at : List ℕ → ℕ → ℕ → List ℕ
 answers_at b functions patterns = answers (numbers_at b 2 functions) (numbers_at b (2 + 2 * functions + 2) patterns)
+
+-- the numbers that pairs of bytes are
+abbrev pub numbers_in : List (List ℕ) → List ℕ
+numbers_in ps = map (λ p. number_at_of p 0) ps

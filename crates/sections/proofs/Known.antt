@@ -2,9 +2,10 @@
 use Prim.Native.Nat.{ℕ, zero, suc, ◌+◌, ◌*◌, ◌<◌}
 use mathlib.Core.Path.{◌≡◌, refl, ap, sym, ◌∙◌}
 use mathlib.Core.Bool.{Bool, true, false, ◌&&◌, false≢true}
-use mathlib.Core.List.{List}
+use mathlib.Core.List.{List, [], ◌∷◌}
 use native.Mathlib.Omega.{arith}
 use native.Mathlib.Nat.{add-zero}
+use lib.ListN.{length, get_or}
 use Rattle.std.specs.List.{list_all, range_with_len}
 use Rattle.p16e1.specs.Functions.{known}
 use Rattle.words.specs.Numbers.{number_at_of, numbers_at}
@@ -21,9 +22,7 @@ all-known_from b at (suc n) i =
     let e : at + 2 * (i + 1) ≡ at + 2 * i + 2 = omega arith in
     ap (λ (t : Bool). known (number_at_of b (at + 2 * i)) && t) (all-known_from b at n (i + 1) ∙ ap (λ (k : ℕ). all_known_of (numbers_at b k n)) e)
 
-pub known_at : (b : List ℕ) (at n i : ℕ) → i < n → all_known_of (numbers_at b at n) ≡ true → known (number_at_of b (at + 2 * i)) ≡ true
-known_at b at zero i h e = absurd (omega arith)
-known_at b at (suc n) zero h e = rw add-zero (both (known (number_at_of b at)) (all_known_of (numbers_at b (at + 2) n)) e).0
-known_at b at (suc n) (suc i) h e =
-    let q : at + 2 + 2 * i ≡ at + 2 * suc i = omega arith in
-    sym (ap (λ (k : ℕ). known (number_at_of b k)) q) ∙ known_at b (at + 2) n i (omega arith) (both (known (number_at_of b at)) (all_known_of (numbers_at b (at + 2) n)) e).1
+pub known_in : (fs : List ℕ) (i : ℕ) → i < length fs → all_known_of fs ≡ true → known (get_or fs i 0) ≡ true
+known_in [] i h e = absurd (omega arith)
+known_in (f ∷ fs) zero h e = (both (known f) (all_known_of fs) e).0
+known_in (f ∷ fs) (suc i) h e = known_in fs i (omega arith) (both (known f) (all_known_of fs) e).1

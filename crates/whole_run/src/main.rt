@@ -5,138 +5,79 @@
 // answers that differ and for each of the points that document 01 names.
 #![tactic(auto)]
 
+use p16e1::Function;
 use std::io;
 use std::io::Input;
+use std::ops::RangeInclusive;
 
 mod points;
 mod print;
 
 // What has been compared so far.
-#[derive(Clone, Copy)]
+#[derive(Clone, Copy, Default)]
 struct Tally {
     compared: u64,
     differ: u64,
 }
 
+impl Tally {
+    // Counts two answers, and says whether they are among the first that differ.
+    fn counts(&mut self, differ: bool) -> bool {
+        let first = differ && self.differ < 5;
+        self.compared = self.compared.wrapping_add(1);
+        self.differ = self.differ.wrapping_add(u64::from(differ));
+        first
+    }
+}
+
 fn main(rt: HostRuntime) -> io::Result<()> {
-    let mut function: u16 = 1;
-    while function <= 10 {
+    for function in (1..=10).filter_map(|number: u16| Function::try_from(number).ok()) {
         table(&rt, function)?;
-        function += 1;
     }
     roots(&rt)
 }
 
 // Compares one function's table and prints its line. An input that ends early leaves patterns out of the count.
-fn table(rt: &(impl Input + Print + Eprint), function: u16) -> io::Result<()> {
-    let low = half(
-        rt,
-        function,
-        0,
-        Tally {
-            compared: 0,
-            differ: 0,
-        },
-    )?;
-    let high = half(rt, function, 32768, low)?;
-    print::line(
-        rt,
-        print::name(function),
-        "patterns",
-        high.compared,
-        high.differ,
-    )
+fn table(rt: &(impl Input + Print + Eprint), function: Function) -> io::Result<()> {
+    let mut tally = Tally::default();
+    half(rt, function, 0..=0x7FFF, &mut tally)?;
+    half(rt, function, 0x8000..=0xFFFF, &mut tally)?;
+    print::line(rt, function, "patterns", tally)
 }
 
-// Reads the answers from the pattern `first` on and compares them.
+// Reads the answers to the patterns and compares them.
 fn half(
     rt: &(impl Input + Print + Eprint),
-    function: u16,
-    first: u16,
-    before: Tally,
-) -> io::Result<Tally> {
+    function: Function,
+    patterns: RangeInclusive<u16>,
+    tally: &mut Tally,
+) -> io::Result<()> {
     let mut buffer = [0u8; 65536];
     let block = blocks::read_block(rt, &mut buffer);
-    let n = block.count;
-    answers(rt, function, first, &buffer[..n], before)
-}
-
-// Compares the answers in `want`, two bytes each, to the patterns from `first` on.
-fn answers(
-    rt: &impl Print,
-    function: u16,
-    first: u16,
-    want: &[u8],
-    before: Tally,
-) -> io::Result<Tally> {
-    let mut compared = before.compared;
-    let mut differ = before.differ;
-    let mut i: usize = 0;
-    while i < 32768 {
-        let at = 2 * i;
-        if want.len() < at + 2 {
-            break;
-        }
-        let p = first.wrapping_add(i as u16);
-        let rust = number(want[at], want[at + 1]);
-        let here = answer(function, p);
-        if here != rust {
-            if differ < 5 {
-                print::both(rt, "differs", function, p, rust, here)?;
-            }
-            differ = differ.wrapping_add(1);
+    for (p, bytes) in patterns.zip(buffer[..block.count].chunks_exact(2)) {
+        let rust = u16::from_le_bytes([bytes[0], bytes[1]]);
+        let here = function.answer(p);
+        if tally.counts(here != rust) {
+            print::both(rt, "differs", function, p, rust, here)?;
         }
         if points::named(function, p) {
             print::both(rt, "point", function, p, rust, here)?;
         }
-        compared = compared.wrapping_add(1);
-        i += 1;
     }
-    Ok(Tally { compared, differ })
-}
-
-fn number(low: u8, high: u8) -> u16 {
-    (low as u16) + 256 * (high as u16)
-}
-
-// The answer here. No table has a function number that is not known.
-fn answer(function: u16, p: u16) -> u16 {
-    let p16e1::Answered::Pattern(r) = p16e1::answer(function, p) else {
-        return 0;
-    };
-    r
+    Ok(())
 }
 
 // Compares the square roots of j * 2^42, for j from 0 to 4,096.
 fn roots(rt: &(impl Input + Print + Eprint)) -> io::Result<()> {
     let mut buffer = [0u8; 16388];
     let block = blocks::read_block(rt, &mut buffer);
-    let n = block.count;
-    let t = root_answers(rt, &buffer[..n])?;
-    print::line(rt, "square root", "roots", t.compared, t.differ)
-}
-
-fn root_answers(rt: &impl Print, want: &[u8]) -> io::Result<Tally> {
-    let mut compared: u64 = 0;
-    let mut differ: u64 = 0;
-    let mut j: usize = 0;
-    while j <= 4096 {
-        let at = 4 * j;
-        if want.len() < at + 4 {
-            break;
+    let mut tally = Tally::default();
+    for (j, bytes) in (0..=4096).zip(buffer[..block.count].chunks_exact(4)) {
+        let rust = u64::from(u32::from_le_bytes([bytes[0], bytes[1], bytes[2], bytes[3]]));
+        let here = arc::square_root(j << 42);
+        if tally.counts(here != rust) {
+            print::root(rt, j, rust, here)?;
         }
-        let low = number(want[at], want[at + 1]);
-        let high = number(want[at + 2], want[at + 3]);
-        let rust = (low as u64) + 65536 * (high as u64);
-        let here = arc::square_root((j as u64) << 42);
-        if here != rust {
-            if differ < 5 {
-                print::root(rt, j as u64, rust, here)?;
-            }
-            differ = differ.wrapping_add(1);
-        }
-        compared = compared.wrapping_add(1);
-        j += 1;
     }
-    Ok(Tally { compared, differ })
+    print::line(rt, "square root", "roots", tally)
 }

@@ -1,24 +1,17 @@
 // What the whole run prints.
+use super::Tally;
+use p16e1::Function;
+use std::fmt::Display;
 use std::io;
 
-// The function's name.
-pub fn name(function: u16) -> &'static str {
-    match function {
-        1 => "exp",
-        2 => "exp2",
-        3 => "ln",
-        4 => "log2",
-        5 => "sin_pi",
-        6 => "cos_pi",
-        7 => "tan_pi",
-        8 => "atan_pi",
-        9 => "asin_pi",
-        _ => "acos_pi",
-    }
-}
-
-// `what` were compared.
-pub fn line(rt: &impl Print, name: &str, what: &str, compared: u64, differ: u64) -> io::Result<()> {
+// What was compared of the function `name`.
+pub fn line(
+    rt: &impl Print,
+    name: impl Display + Drop,
+    what: &str,
+    tally: Tally,
+) -> io::Result<()> {
+    let Tally { compared, differ } = tally;
     println!(rt; "{name}: {compared} {what} compared, {differ} differ")
 }
 
@@ -26,13 +19,12 @@ pub fn line(rt: &impl Print, name: &str, what: &str, compared: u64, differ: u64)
 pub fn both(
     rt: &impl Print,
     what: &str,
-    function: u16,
+    function: Function,
     p: u16,
     rust: u16,
     here: u16,
 ) -> io::Result<()> {
-    let name = name(function);
-    println!(rt; "{what}: {name}: {p}: the Rust 0x{rust:04x}, here 0x{here:04x}")
+    println!(rt; "{what}: {function}: {p}: the Rust 0x{rust:04x}, here 0x{here:04x}")
 }
 
 // One square root with both answers.

@@ -1,17 +1,12 @@
--- The rows of the first `i` functions are written.
-use Rattle.std.proofs.Common.{◌≡◌, ◌+◌, ◌-◌, ◌*◌, ◌≤◌, length}
+-- The rows of the functions before the place reached are written.
+use Rattle.std.proofs.Common.{◌≡◌, ◌*◌, length, take}
 use Rattle.std.proofs.lemmas.List.Edits.{sets}
-use Rattle.words.specs.Numbers.{bytes_of_all, numbers_at}
-use Rattle.listing.specs.Answered.{answers}
+use Rattle.words.specs.Numbers.{bytes_of_all}
+use Rattle.listing.specs.Answered.{answers, numbers_in}
 use Rattle.listing.proofs.answer_rows.write_answers.Given as goal
 
-abbrev pub invariant-loop-i : goal.invariant-loop-i
-invariant-loop-i l = record {
-  in_range : l.i ≤ l.functions;
-  place : l.at ≡ l.to + 2 * (l.i * l.patterns);
-  as_long : length l.output ≡ length l.fn.output;
-  written : l.output ≡ sets l.fn.output l.to (bytes_of_all (answers (numbers_at l.input 2 l.i) (numbers_at l.input l.from l.patterns)));
+abbrev pub invariant-loop-number : goal.invariant-loop-number
+invariant-loop-number l = record {
+  place : l.at ≡ 2 * (l.number-index * length l.patterns);
+  written : l.output ≡ sets l.fn.output 0 (bytes_of_all (answers (numbers_in (take l.number-index l.functions)) (numbers_in l.patterns)));
 }
-
-abbrev pub decreases-loop-i : goal.decreases-loop-i
-decreases-loop-i l = l.functions - l.i
