@@ -4,7 +4,7 @@
 use Rattle.std.specs.Prelude.{ℕ, List, [], ◌∷◌, ◌++◌, cond, length, drop, ltb, Option, is_none, Result, Ok, Err}
 use Rattle.refusals.specs.declared.Refusal.{Refusal}
 use Rattle.refusals.specs.declared.Refusal.TheVariants.{Output, After}
-use Rattle.refusals.specs.Refusals.{number_of, ◌before◌, refused_when, unless_refused}
+use Rattle.refusals.specs.Refusals.{number_or_zero, ◌before◌, refused_when, unless_refused}
 use Rattle.words.specs.Numbers.{bytes_of}
 use Rattle.sections.specs.Sections.{functions_of, patterns_of, past_patterns}
 use Rattle.sections.specs.Order.{sections_refusal}
@@ -33,12 +33,12 @@ abbrev pub output_of : List ℕ → List ℕ → List ℕ
 output_of b output = writes b (length output) ++ drop (length (writes b (length output))) output
 
 -- "when refused it writes FF FF and the refusal number as two bytes"
-abbrev pub reply : Refusal → List ℕ
-reply r = 0xFF ∷ 0xFF ∷ bytes_of (number_of r)
+abbrev pub reply : Option Refusal → List ℕ
+reply r = 0xFF ∷ 0xFF ∷ bytes_of (number_or_zero r)
 
 -- the reply in an output's first bytes, where it has room for it
 abbrev pub reply_length : ℕ → ℕ
 reply_length outputs = cond (ltb outputs 4) 0 4
 
-abbrev pub with_reply : List ℕ → Refusal → List ℕ
+abbrev pub with_reply : List ℕ → Option Refusal → List ℕ
 with_reply output r = cond (ltb (length output) 4) output (reply r ++ drop 4 output)

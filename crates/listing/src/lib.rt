@@ -47,9 +47,9 @@ pub fn answer_listing(input: &[u8], output: &mut [u8]) -> Result<usize, Refusal>
     Ok(written)
 }
 
-// The reply to a refused listing: FF FF and the refusal's number, in the first four bytes of `output`, and how many bytes that
-// is. Where there is no room for them it writes nothing.
-pub fn put_refusal(output: &mut [u8], refusal: Refusal) -> usize
+// The reply to a refused listing: FF FF and the refusal's number, 0 for none, in the first four bytes of `output`, and how many
+// bytes that is. Where there is no room for them it writes nothing.
+pub fn put_refusal(output: &mut [u8], refusal: Option<Refusal>) -> usize
     ensures value { result ≡ reply_length (length output.old) }
     ensures output_after { output.new ≡ with_reply output.old refusal }
 {
@@ -58,6 +58,6 @@ pub fn put_refusal(output: &mut [u8], refusal: Refusal) -> usize
     }
     output[0] = 0xFF;
     output[1] = 0xFF;
-    words::put_number(output, 2, u16::from(refusal));
+    words::put_number(output, 2, refusals::number(refusal));
     4
 }

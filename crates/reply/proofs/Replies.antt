@@ -52,15 +52,15 @@ module _ (b output : List ℕ) (r : Refusal) (e : Err r ≡ listed_of b (length 
   unfolding reply_of
   refused_length = rw (same, refused) (go (ltb (length output) 4))
     where
-      go : (t : Bool) → cond t 0 4 ≡ length (cond t [] (reply r))
+      go : (t : Bool) → cond t 0 4 ≡ length (cond t [] (reply (Some r)))
       go true = refl
       go false = refl
 
-  pub refused_output : with_reply (Listing.output_of b output) r ≡ output_of b output
+  pub refused_output : with_reply (Listing.output_of b output) (Some r) ≡ output_of b output
   unfolding reply_of
   refused_output = rw (same, refused) (go (ltb (length output) 4))
     where
-      go : (t : Bool) → cond t output (reply r ++ drop 4 output) ≡ cond t [] (reply r) ++ drop (length (cond t [] (reply r))) output
+      go : (t : Bool) → cond t output (reply (Some r) ++ drop 4 output) ≡ cond t [] (reply (Some r)) ++ drop (length (cond t [] (reply (Some r)))) output
       go true = refl
       go false = refl
 

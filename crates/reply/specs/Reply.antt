@@ -9,7 +9,7 @@ use Rattle.listing.specs.Outcome.{refusal_of, reply}
 -- to a call that was answered so, or refused, with an output of so many bytes
 abbrev pub reply_by : Option Refusal → List ℕ → ℕ → List ℕ
 reply_by None whole outputs = whole
-reply_by (Some r) whole outputs = cond (ltb outputs 4) [] (reply r)
+reply_by (Some r) whole outputs = cond (ltb outputs 4) [] (reply (Some r))
 
 unfoldable pub reply_of : List ℕ → ℕ → List ℕ
 reply_of b outputs = reply_by (refusal_of b outputs) (answered (functions_of b) (patterns_of b)) outputs

@@ -17,6 +17,6 @@ pub fn reply_to(input: &[u8], output: &mut [u8]) -> usize
 {
     match answer_listing(input, output) {
         Ok(written) => written,
-        Err(refusal) => put_refusal(output, refusal),
+        Err(refusal) => put_refusal(output, Some(refusal)),
     }
 }
