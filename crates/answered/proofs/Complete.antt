@@ -3,13 +3,14 @@ use Prim.Native.Nat.{ℕ, ◌+◌, ◌≤◌, ◌<◌}
 use mathlib.Core.Path.{◌≡◌, refl, sym, ◌∙◌}
 use mathlib.Core.Bool.{Bool, true, false, cond, not, false≢true}
 use mathlib.Core.List.{List}
+use Rattle.std.specs.Prelude.{Option, Some, None, is_none, Ok}
 use native.Mathlib.Omega.{arith}
 use borrow.Author.Tests.{lt-ltb, le-ltb, ltb-false, eq-eqb, ne_eqb, eqb-true}
 use lib.ListN.{length}
 use lib.Dec.{ltb, eqb}
 use Rattle.refusals.specs.declared.Refusal.{Refusal}
-use Rattle.refusals.specs.declared.Refusal.TheVariants.{None, Cut, After, Count}
-use Rattle.refusals.specs.Refusals.{is_none, ◌before◌, refused_when}
+use Rattle.refusals.specs.declared.Refusal.TheVariants.{Cut, After, Count}
+use Rattle.refusals.specs.Refusals.{◌before◌, refused_when}
 use Rattle.words.specs.Numbers.{number_at_of}
 use Rattle.sections.specs.declared.Sections.{Sections}
 use Rattle.sections.specs.Sections.{past_section, past_patterns}
@@ -26,22 +27,22 @@ pub record Complete (b : List ℕ) : Type 0 where
   pub nothing_after : length b ≤ past_section b (past_patterns b)
 
 module _ (b : List ℕ) where
-  pub sections_first : (r : Refusal) → r ≡ sections_refusal b → is_none r ≡ false → answered_refusal b ≡ r
+  pub sections_first : (r : Option Refusal) → r ≡ sections_refusal b → is_none r ≡ false → answered_refusal b ≡ r
   unfolding answered_refusal
   sections_first r e n = rw (← e, n)
 
   module _ (s : Sound b) where
-    pub count-missing : length b < past_patterns b + 2 → answered_refusal b ≡ Cut
+    pub count-missing : length b < past_patterns b + 2 → answered_refusal b ≡ Some Cut
     unfolding answered_refusal answers_refusal
     count-missing h = rw (sound b s, lt-ltb (length b) (past_patterns b + 2) h)
 
     module _ (counted : past_patterns b + 2 ≤ length b) where
-      pub count-wrong : (number_at_of b (past_patterns b) ≡ asks b → ⊥) → answered_refusal b ≡ Count
+      pub count-wrong : (number_at_of b (past_patterns b) ≡ asks b → ⊥) → answered_refusal b ≡ Some Count
       unfolding answered_refusal answers_refusal
       count-wrong h = rw (sound b s, le-ltb (length b) (past_patterns b + 2) counted, ne_eqb (number_at_of b (past_patterns b)) (asks b) h)
 
       module _ (count : number_at_of b (past_patterns b) ≡ asks b) where
-        pub answers-missing : length b < past_section b (past_patterns b) → answered_refusal b ≡ Cut
+        pub answers-missing : length b < past_section b (past_patterns b) → answered_refusal b ≡ Some Cut
         unfolding answered_refusal answers_refusal
         answers-missing h =
             rw (
@@ -51,7 +52,7 @@ module _ (b : List ℕ) where
               lt-ltb (length b) (past_section b (past_patterns b)) h,
             )
 
-        pub bytes_after : past_section b (past_patterns b) < length b → answered_refusal b ≡ After
+        pub bytes_after : past_section b (past_patterns b) < length b → answered_refusal b ≡ Some After
         unfolding answered_refusal answers_refusal
         bytes_after h =
             rw (
@@ -73,7 +74,7 @@ module _ (b : List ℕ) where
         le-ltb (past_section b (past_patterns b)) (length b) w.nothing_after,
       )
 
-none_refuses : (r : Refusal) (s t u v : Bool)
+none_refuses : (r : Option Refusal) (s t u v : Bool)
     → is_none (r before refused_when s Cut before refused_when (not t) Count before refused_when u Cut before refused_when v After) ≡ true
     → (is_none r ≡ true) × (s ≡ false) × (t ≡ true) × (u ≡ false) × (v ≡ false)
 none_refuses r s t u v e = go (is_none r) refl s t u v e
@@ -107,8 +108,7 @@ pub record Found (b : List ℕ) (s : Sections) : Type 0 where
   pub complete : Complete b
   pub counts : Counted b s
 
-pub found : (b : List ℕ) (s : Sections) → s ≡ answered_of b → is_none s.refusal ≡ true → Found b s
-found b s e n =
-    let none = none_of b (answered_refusal b) s e n in
-    let w = complete_of b none in
-    record { complete = w; counts = counted_of b (answered_refusal b) s e none w.sections }
+pub found : (b : List ℕ) (s : Sections) → Ok s ≡ answered_of b → Found b s
+found b s e =
+    let w = complete_of b (none_of b (answered_refusal b) s e) in
+    record { complete = w; counts = counted_of b (answered_refusal b) s e w.sections }

@@ -1,3 +1,4 @@
 pub mod Complete
 pub mod Same
 pub mod Pairs
+pub mod Reading

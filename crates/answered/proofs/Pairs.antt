@@ -3,9 +3,10 @@ use Prim.Native.Nat.{ℕ}
 use mathlib.Core.Path.{◌≡◌, refl, sym, ◌∙◌}
 use mathlib.Core.Bool.{Bool, true, false, cond, not, ◌&&◌, false≢true}
 use mathlib.Core.List.{List}
+use Rattle.std.specs.Prelude.{Option, Some, None, is_none}
 use Rattle.refusals.specs.declared.Refusal.{Refusal}
-use Rattle.refusals.specs.declared.Refusal.TheVariants.{None, Different}
-use Rattle.refusals.specs.Refusals.{is_none, ◌before◌, refused_when}
+use Rattle.refusals.specs.declared.Refusal.TheVariants.{Different}
+use Rattle.refusals.specs.Refusals.{◌before◌, refused_when}
 use Rattle.sections.specs.Sections.{functions_of, patterns_of}
 use Rattle.answered.specs.Answered.{same, answered_refusal, pair_refusal}
 use Rattle.answered.proofs.Complete.{Complete, complete, complete_of}
@@ -19,21 +20,21 @@ pub record Agreed (b c : List ℕ) : Type 0 where
   pub patterns : patterns_of b ≡ patterns_of c
 
 module _ (b c : List ℕ) where
-  pub first-first : (r : Refusal) → r ≡ answered_refusal b → is_none r ≡ false → pair_refusal b c ≡ r
+  pub first-first : (r : Option Refusal) → r ≡ answered_refusal b → is_none r ≡ false → pair_refusal b c ≡ r
   unfolding pair_refusal
   first-first r e n = rw (← e, n)
 
   module _ (x : Complete b) where
-    pub second-next : (r : Refusal) → r ≡ answered_refusal c → is_none r ≡ false → pair_refusal b c ≡ r
+    pub second-next : (r : Option Refusal) → r ≡ answered_refusal c → is_none r ≡ false → pair_refusal b c ≡ r
     unfolding pair_refusal
     second-next r e n = rw (complete b x, ← e, n)
 
     module _ (y : Complete c) where
-      pub functions-differ : (functions_of b ≡ functions_of c → ⊥) → pair_refusal b c ≡ Different
+      pub functions-differ : (functions_of b ≡ functions_of c → ⊥) → pair_refusal b c ≡ Some Different
       unfolding pair_refusal
       functions-differ h = rw (complete b x, complete c y, not_same (functions_of b) (functions_of c) h)
 
-      pub patterns-differ : (patterns_of b ≡ patterns_of c → ⊥) → pair_refusal b c ≡ Different
+      pub patterns-differ : (patterns_of b ≡ patterns_of c → ⊥) → pair_refusal b c ≡ Some Different
       unfolding pair_refusal
       patterns-differ h = rw (complete b x, complete c y, not_same (patterns_of b) (patterns_of c) h, and-false (same (functions_of b) (functions_of c)))
         where
@@ -45,7 +46,7 @@ module _ (b c : List ℕ) where
   unfolding pair_refusal
   agreed a = rw (complete b a.first, complete c a.second, a.functions, a.patterns, same_refl (functions_of c), same_refl (patterns_of c))
 
-none_refuses : (r s : Refusal) (t u : Bool) → is_none (r before s before refused_when (not (t && u)) Different) ≡ true
+none_refuses : (r s : Option Refusal) (t u : Bool) → is_none (r before s before refused_when (not (t && u)) Different) ≡ true
     → (is_none r ≡ true) × (is_none s ≡ true) × (t ≡ true) × (u ≡ true)
 none_refuses r s t u e = go (is_none r) refl (is_none s) refl t u e
   where

@@ -1,13 +1,14 @@
--- Whether two lists have the same numbers: one more at the end, and what it says of the lists.
-use Prim.Native.Nat.{ℕ, ◌+◌, ◌*◌, ◌<◌}
+-- Whether two lists have the same numbers: what it says of the lists, and the same asked of one place after the other.
+use Prim.Native.Nat.{ℕ, zero, suc, ◌+◌, ◌*◌}
 use mathlib.Core.Path.{◌≡◌, refl, sym, ap, ◌∙◌}
 use mathlib.Core.Bool.{Bool, true, false, ◌&&◌, false≢true}
-use mathlib.Core.List.{List, [], ◌∷◌, ◌++◌}
+use mathlib.Core.List.{List, [], ◌∷◌}
+use native.Mathlib.Omega.{arith}
+use native.Mathlib.Nat.{add-zero}
 use borrow.Author.Tests.{eq-eqb, eqb-true}
-use lib.ListN.{get_or}
 use lib.Dec.{eqb}
+use Rattle.std.specs.List.{list_all, range_with_len}
 use Rattle.words.specs.Numbers.{number_at_of, numbers_at}
-use Rattle.words.proofs.Reading.{numbers_at_next, number_of}
 use Rattle.answered.specs.Answered.{same}
 
 both : (s t : Bool) → s && t ≡ true → (s ≡ true) × (t ≡ true)
@@ -36,19 +37,16 @@ not_same vs ws h = is_false (same vs ws) (λ e. h (same_lists vs ws e))
 pub same_false : (vs ws : List ℕ) → same vs ws ≡ false → vs ≡ ws → ⊥
 same_false vs ws e q = false≢true (sym e ∙ rw q (same_refl ws))
 
-same-snoc : (vs ws : List ℕ) (x y : ℕ) → same vs ws ≡ true → x ≡ y → same (vs ++ (x ∷ [])) (ws ++ (y ∷ [])) ≡ true
-same-snoc vs ws x y e q = rw (same_lists vs ws e, q) (same_refl (ws ++ (y ∷ [])))
+-- asked of each of n places from the place i on
+same_from : (b c : List ℕ) (at n i : ℕ)
+    → list_all (λ k. eqb (number_at_of b (at + 2 * k)) (number_at_of c (at + 2 * k))) (range_with_len i n)
+    ≡ same (numbers_at b (at + 2 * i) n) (numbers_at c (at + 2 * i) n)
+same_from b c at zero i = refl
+same_from b c at (suc n) i =
+    let e : at + 2 * (i + 1) ≡ at + 2 * i + 2 = omega arith in
+    ap (λ (t : Bool). eqb (number_at_of b (at + 2 * i)) (number_at_of c (at + 2 * i)) && t)
+    (same_from b c at n (i + 1) ∙ ap (λ (k : ℕ). same (numbers_at b k n) (numbers_at c k n)) e)
 
-module _ (b c : List ℕ) (at : ℕ) where
-  pub same_next : (n : ℕ) → same (numbers_at b at n) (numbers_at c at n) ≡ true → number_at_of b (at + 2 * n) ≡ number_at_of c (at + 2 * n)
-      → same (numbers_at b at (n + 1)) (numbers_at c at (n + 1)) ≡ true
-  same_next n e q =
-      rw (numbers_at_next b at n, numbers_at_next c at n)
-      (same-snoc (numbers_at b at n) (numbers_at c at n) (number_at_of b (at + 2 * n)) (number_at_of c (at + 2 * n)) e q)
-
-numbers_same_at : (b c : List ℕ) (at n i : ℕ) → i < n → numbers_at b at n ≡ numbers_at c at n → number_at_of b (at + 2 * i) ≡ number_at_of c (at + 2 * i)
-numbers_same_at b c at n i h e = sym (number_of b at n i h) ∙ ap (λ (l : List ℕ). get_or l i 0) e ∙ number_of c at n i h
-
-pub differs_at : (b c : List ℕ) (at n i : ℕ) → i < n → (number_at_of b (at + 2 * i) ≡ number_at_of c (at + 2 * i) → ⊥)
-    → same (numbers_at b at n) (numbers_at c at n) ≡ false
-differs_at b c at n i h d = not_same (numbers_at b at n) (numbers_at c at n) (λ e. d (numbers_same_at b c at n i h e))
+pub same_by_place : (b c : List ℕ) (at n : ℕ)
+    → list_all (λ k. eqb (number_at_of b (at + 2 * k)) (number_at_of c (at + 2 * k))) (range_with_len 0 n) ≡ same (numbers_at b at n) (numbers_at c at n)
+same_by_place b c at n = same_from b c at n 0 ∙ ap (λ (k : ℕ). same (numbers_at b k n) (numbers_at c k n)) (add-zero at)

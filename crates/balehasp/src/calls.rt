@@ -1,6 +1,6 @@
 // The calls by number, whose results are a refusal's number and what is written through the places lent.
 ghost use Rattle.std.specs.Prelude.{◌≡◌, cond, length};
-ghost use Rattle.core.specs.Result.{result_err, result_unwrap_or};
+ghost use Rattle.std.specs.Result.{result_err, result_unwrap_or};
 ghost use Rattle.p16e1.specs.Functions.{known, answer_of};
 ghost use Rattle.batch.specs.Batch.{batched_of, output_of, next_after, nars_of};
 ghost use Rattle.listing.specs.Outcome.{listed_of};
@@ -12,6 +12,7 @@ use batch::Batched;
 
 // 0 and the function's answer, or 1, the refusal of an unknown function, with the place as it was.
 #[unsafe(no_mangle)]
+#[tactic(auto, using(p16e1::proofs::ByNumber::answer_is))]
 pub extern "C" fn balehasp_answer(function: u16, p: u16, answer: &mut u16) -> u16
     ensures value { result ≡ cond (known function) 0 1 }
     ensures answer_after { answer.new ≡ cond (known function) (answer_of function p) answer.old }

@@ -1,6 +1,6 @@
 // The listing in pieces. The state lies with the caller, in the bytes of the crate stored.
 ghost use Rattle.std.specs.Prelude.{◌≡◌, length};
-ghost use Rattle.core.specs.Result.{result_err, result_unwrap_or};
+ghost use Rattle.std.specs.Result.{result_err, result_unwrap_or};
 ghost use Rattle.refusals.specs.Refusals.{number_or_zero};
 ghost use Rattle.pieces.specs.Calls.{piece_of, end_of, end_output_of};
 ghost use Rattle.stored.specs.Stored.{state_in_of, piece_leaves, end_leaves};

@@ -5,6 +5,7 @@ ghost use Rattle.p16e1.specs.Functions.{known, answer_of, sided_answer_of};
 
 // 0, the function's answer and its side's number, or 1, the refusal of an unknown function, with both places as they were.
 #[unsafe(no_mangle)]
+#[tactic(auto, using(p16e1::proofs::ByNumber::sided_is, p16e1::proofs::ByNumber::sided_answer))]
 pub extern "C" fn balehasp_sided(function: u16, p: u16, answer: &mut u16, side: &mut i8) -> u16
     ensures value { result ≡ cond (known function) 0 1 }
     ensures answer_after { answer.new ≡ cond (known function) (answer_of function p) answer.old }

@@ -1,17 +1,15 @@
 -- The state in bytes: "all zeros being fresh"; what was laid out is read back, and bytes in which a state lies that calls produce are
 -- those of that state.
-use Prim.Native.Nat.{ℕ, zero, suc, ◌+◌, ◌/◌, ◌%◌, ◌≤◌, ◌<◌}
+use Prim.Native.Nat.{ℕ, ◌+◌, ◌/◌, ◌%◌}
 use mathlib.Core.Path.{◌≡◌, refl, sym, ap, ◌∙◌}
-use mathlib.Core.Bool.{Bool, true, false, false≢true}
+use mathlib.Core.Bool.{true, false}
 use mathlib.Core.List.{List, [], ◌∷◌, ◌++◌, append_assoc, append-nil}
 use native.Mathlib.Omega.{arith}
-use borrow.Author.Tests.{ne_eqb, ltb-true, ltb-false}
 use lib.ListN.{length, take, drop, get_or, replicate, length-append, take-append-drop, drop_of_length-le}
 use lib.Seq.{take_at, drop-cons}
-use lib.Dec.{eqb, ltb}
-use Rattle.std.specs.Prelude.{Option, Some, None}
+use Rattle.std.proofs.lemmas.Bool.Decides.{nat_tests}
+use Rattle.std.specs.Prelude.{Option}
 use Rattle.refusals.specs.declared.Refusal.{Refusal}
-use Rattle.refusals.specs.declared.Refusal.TheVariants.{Function, Output, Start, Cut, Limits, After, Count, Different, State}
 use Rattle.refusals.specs.Refusals.{number_or_zero, refusal_numbered, is_state}
 use Rattle.words.specs.Numbers.{bytes_of, number_at_of}
 use Rattle.sections.proofs.Back.{Bytes, number_back}
@@ -22,58 +20,18 @@ use Rattle.stored.specs.Stored.{state_in_of, layout}
 
 -- each refusal has its number back
 pub numbered_back : (r : Option Refusal) → refusal_numbered (number_or_zero r) ≡ r
-numbered_back None = refl
-numbered_back (Some Function) = refl
-numbered_back (Some Output) = refl
-numbered_back (Some Start) = refl
-numbered_back (Some Cut) = refl
-numbered_back (Some Limits) = refl
-numbered_back (Some After) = refl
-numbered_back (Some Count) = refl
-numbered_back (Some Different) = refl
-numbered_back (Some State) = refl
+numbered_back r = grind (arith, nat_tests)
 
 -- and a number that is no State's is that of its refusal
-small : (n : ℕ) → n ≤ 8 → number_or_zero (refusal_numbered n) ≡ n
-small zero h = refl
-small (suc zero) h = refl
-small (suc (suc zero)) h = refl
-small (suc (suc (suc zero))) h = refl
-small (suc (suc (suc (suc zero)))) h = refl
-small (suc (suc (suc (suc (suc zero))))) h = refl
-small (suc (suc (suc (suc (suc (suc zero)))))) h = refl
-small (suc (suc (suc (suc (suc (suc (suc zero))))))) h = refl
-small (suc (suc (suc (suc (suc (suc (suc (suc zero)))))))) h = refl
-small (suc (suc (suc (suc (suc (suc (suc (suc (suc n))))))))) h = absurd (omega arith)
-
-large : (n : ℕ) → 8 < n → refusal_numbered n ≡ Some State
-large n h =
-    let other : (k : ℕ) → k ≤ 8 → eqb n k ≡ false = λ k l. ne_eqb n k (λ e. omega arith) in
-    rw (other 0 (omega arith), other 1 (omega arith), other 2 (omega arith), other 3 (omega arith), other 4 (omega arith), other 5 (omega arith))
-    (rw (other 6 (omega arith), other 7 (omega arith), other 8 (omega arith)))
-
 pub number_numbered : (n : ℕ) → is_state (refusal_numbered n) ≡ false → number_or_zero (refusal_numbered n) ≡ n
-number_numbered n h = go (ltb 8 n) refl
-  where
-    go : (t : Bool) → ltb 8 n ≡ t → number_or_zero (refusal_numbered n) ≡ n
-    go true e = absurd (false≢true (sym h ∙ ap is_state (large n (ltb-true 8 n e))))
-    go false e = small n (ltb-false 8 n e)
+number_numbered n h = grind (arith, nat_tests)
 
 -- a state that calls produce has no State
+kept_other : (r : Option Refusal) (b : List ℕ) → may_keep_of r b ≡ true → is_state r ≡ false
+kept_other r b k = grind arith
+
 not_forged : (s : Pieces) → produced s ≡ true → is_state s.refusal ≡ false
-not_forged s h = by s.refusal (good_of s h).kept
-  where
-    by : (r : Option Refusal) → may_keep_of r (bytes_so_far s) ≡ true → is_state r ≡ false
-    by None k = refl
-    by (Some Function) k = refl
-    by (Some Output) k = refl
-    by (Some Start) k = refl
-    by (Some Cut) k = refl
-    by (Some Limits) k = refl
-    by (Some After) k = refl
-    by (Some Count) k = refl
-    by (Some Different) k = refl
-    by (Some State) k = absurd (false≢true k)
+not_forged s h = kept_other s.refusal (bytes_so_far s) (good_of s h).kept
 
 pub zeros_fresh : state_in_of (replicate 2076 0) ≡ fresh_state
 unfolding state_in_of keeping

@@ -77,7 +77,9 @@ module _ (s : Pieces) (c : Call) (n : is_none (said_by s c) ≡ false) (between 
   repeats d = same_said then refused_then d ∙ ap handed_in_of unchanged ∙ keeps_said s c
 
   pub writes_nothing : (output : List ℕ) → (written_of (end_of then (length output)).written ≡ 0) × (end_output_of then output ≡ output)
-  writes_nothing output = (ap (λ (r : Ended). written_of r.written) (refused_end then (length output) refused_then) ∙ none_written (handed_in_of then), refused_output then output refused_then)
+  writes_nothing output =
+      let none = ap (λ (r : Ended). written_of r.written) (refused_end then (length output) refused_then) ∙ none_written (handed_in_of then) in
+      (none, refused_output then output refused_then)
 
 -- an end that answers
 pub answered_fresh : (s : Pieces) (outputs : ℕ) → is_none (result_err (end_of s outputs).written) ≡ true → (end_of s outputs).state ≡ fresh_state

@@ -11,7 +11,7 @@ use lib.Dec.{ltb}
 use Rattle.std.specs.Prelude.{Option, None, is_none}
 use Rattle.refusals.specs.declared.Refusal.{Refusal}
 use Rattle.refusals.specs.declared.Refusal.TheVariants.{Output, After}
-use Rattle.refusals.specs.Refusals.{is_cut, ◌before◌, refused_when}
+use Rattle.refusals.specs.Refusals.{◌before◌, refused_when}
 use Rattle.refusals.proofs.Refusing.{before_keeps, when_keeps}
 use Rattle.sections.specs.Sections.{functions_of, patterns_of, past_patterns}
 use Rattle.sections.specs.Order.{sections_refusal}
@@ -69,11 +69,7 @@ given b outputs =
 
 given_so_far : (b : List ℕ) → may_keep_of (so_far_of b) [] ≡ true
 unfolding so_far_of
-given_so_far b = go (is_cut (refusal_of b longest_answered))
-  where
-    go : (t : Bool) → may_keep_of (cond t None (refusal_of b longest_answered)) [] ≡ true
-    go true = ap is_none nothing_yet
-    go false = given b longest_answered
+given_so_far b = let none = ap is_none nothing_yet in grind (arith, given b longest_answered)
 
 pub after-produced : (b : List ℕ) → produced (state_after_of b) ≡ true
 unfolding state_after_of

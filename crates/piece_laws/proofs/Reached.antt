@@ -7,6 +7,7 @@ use native.Mathlib.Omega.{arith}
 use borrow.Author.Tests.{eqb-true, ltb-true}
 use lib.ListN.{length, take}
 use lib.Dec.{ltb, eqb}
+use Rattle.std.proofs.lemmas.List.{nil_from_length}
 use Rattle.std.specs.Prelude.{Option, Some, None, is_none}
 use Rattle.refusals.specs.declared.Refusal.{Refusal}
 use Rattle.refusals.specs.declared.Refusal.TheVariants.{Function, Output, Start, Cut, Limits, After, Count, Different, State}
@@ -48,16 +49,12 @@ met_first : (b : List ℕ) (r : Refusal) → so_far_of b ≡ Some r → run fres
 met_first b r e = first_piece b ∙ met_after b (ap is_none e) ∙ ap (keeping []) e
 
 -- a refused state keeps no bytes and a refusal of the listing call
-empty_of : (b : List ℕ) → length b ≡ 0 → b ≡ []
-empty_of [] e = refl
-empty_of (x ∷ b) e = absurd (omega arith)
-
 module _ (s : Pieces) (full : length s.bytes ≡ longest) (g : Good s) where
   refused_state : (r : Refusal) → s.refusal ≡ Some r → (from_listing r ≡ true) × (s ≡ keeping [] (Some r))
   refused_state r e =
       let k : may_keep_of (Some r) (bytes_so_far s) ≡ true = subst (λ (r : Option Refusal). may_keep_of r (bytes_so_far s) ≡ true) e g.kept in
       let h = both (from_listing r) (eqb (length (bytes_so_far s)) 0) k in
-      let none = empty_of (bytes_so_far s) (eqb-true (length (bytes_so_far s)) 0 h.1) in
+      let none = nil_from_length (bytes_so_far s) (eqb-true (length (bytes_so_far s)) 0 h.1) in
       (h.0, keeps s full g ∙ ap (λ (l : List ℕ). keeping l s.refusal) none ∙ ap (keeping []) e)
 
   never : (r : Refusal) → s.refusal ≡ Some r → from_listing r ≡ false → Reached s

@@ -1,13 +1,14 @@
 -- What a state keeps, and what it keeps after more bytes.
-use Prim.Native.Nat.{ℕ, zero, suc, ◌+◌, ◌-◌, ◌≤◌}
+use Prim.Native.Nat.{ℕ, zero, suc, ◌-◌, ◌≤◌}
 use mathlib.Core.Path.{◌≡◌, refl, sym, ap, ◌∙◌}
 use mathlib.Core.Bool.{Bool, true, false, not, ◌&&◌, false≢true}
 use mathlib.Core.List.{List, [], ◌∷◌, ◌++◌, append_assoc, append-nil}
 use native.Mathlib.Omega.{arith}
 use borrow.Author.Tests.{leb-true, eqb-true}
-use lib.ListN.{length, take, drop, replicate, length-drop, length-replicate, replicate-append-replicate, take-append-drop, drop_of_length-le}
-use lib.Seq.{sets, length-take-le, drop_at}
+use lib.ListN.{length, take, drop, replicate, length-drop, length-replicate, take-append-drop, drop_of_length-le}
+use lib.Seq.{sets, length-take-le}
 use lib.Dec.{leb, eqb}
+use Rattle.std.proofs.lemmas.List.{drop-replicate}
 use Rattle.std.specs.Prelude.{None, is_none}
 use Rattle.refusals.specs.declared.Refusal.TheVariants.{State}
 use Rattle.refusals.specs.Refusals.{◌before◌, refused_when}
@@ -74,21 +75,13 @@ module _ (s : Pieces) (full : length s.bytes ≡ longest) (g : Good s) where
       sym (take-append-drop s.count s.bytes) ∙ rw size (ap (λ (l : List ℕ). bytes_so_far s ++ l) rest) in
       ap (λ (b : List ℕ). make b s.count) e ∙ ap (make (bytes_so_far s ++ replicate (longest - length (bytes_so_far s)) 0)) (sym size)
 
--- zeros, without the first n of them
-drop_zeros : (m n : ℕ) → n ≤ m → drop n (replicate {A = ℕ} m 0) ≡ replicate (m - n) 0
-drop_zeros m n h =
-    let e : n + (m - n) ≡ m = omega arith in
-    let parts : replicate {A = ℕ} m 0 ≡ replicate n 0 ++ replicate (m - n) 0 =
-    sym (replicate-append-replicate n (m - n) 0 ∙ ap (λ (k : ℕ). replicate k 0) e) in
-    ap (drop n) parts ∙ drop_at (replicate n 0) (replicate (m - n) 0) n (length-replicate n 0)
-
 -- p written over the m zeros after b
 module _ (b p : List ℕ) (m : ℕ) where
   pub fits : length p ≤ m → b ++ sets (replicate m 0) 0 p ≡ b ++ p ++ replicate (m - length p) 0
   fits h =
       let z : List ℕ = replicate m 0 in
       let room : length p ≤ length z = omega (arith, length-replicate {A = ℕ} m 0) in
-      ap (λ (l : List ℕ). b ++ l) (sets_front z p room ∙ ap (λ (l : List ℕ). p ++ l) (drop_zeros m (length p) h))
+      ap (λ (l : List ℕ). b ++ l) (sets_front z p room ∙ ap (λ (l : List ℕ). p ++ l) (drop-replicate (length p) m 0))
       ∙ sym (append_assoc b p (replicate (m - length p) 0))
 
   pub fills : m ≤ length p → b ++ sets (replicate m 0) 0 p ≡ b ++ take m p

@@ -2,14 +2,14 @@
 -- what the piece call gives by them.
 use Prim.Native.Nat.{ℕ, ◌+◌, ◌-◌, ◌≤◌, ◌<◌}
 use mathlib.Core.Path.{◌≡◌, refl, sym, ap, ◌∙◌}
-use mathlib.Core.Bool.{Bool, true, false}
+use mathlib.Core.Bool.{true, false}
 use mathlib.Core.List.{List, [], ◌++◌, append_assoc, append-nil}
 use native.Mathlib.Omega.{arith}
 use borrow.Rule.Slice.PartMut.{mid_of, put_mid}
 use lib.ListN.{length, take, drop, replicate, length-append, length-drop, length-replicate, take-append-drop, drop_of_length-le}
 use lib.Seq.{sets, length-sets, take_all, take_at}
 use Rattle.std.proofs.lemmas.Grind.{common_steps}
-use Rattle.std.specs.Prelude.{Option, None, is_none}
+use Rattle.std.specs.Prelude.{Option, Some, None, is_none}
 use Rattle.refusals.specs.declared.Refusal.{Refusal}
 use Rattle.listing.specs.Longest.{longest}
 use Rattle.piece_state.specs.declared.Pieces.{Pieces}
@@ -20,12 +20,9 @@ use Rattle.pieces.specs.declared.Pieced.{Pieced}
 use Rattle.pieces.specs.Calls.{piece_of}
 use Rattle.pieces.proofs.Calls.{taken-piece, met_piece, next_piece}
 
-pub more_refused : (r : Option Refusal) → is_none (after_more r) ≡ false
-more_refused r = go (is_none r) refl
-  where
-    go : (t : Bool) → is_none r ≡ t → is_none (after_more r) ≡ false
-    go true e = rw e
-    go false e = rw (e, e)
+more_refused : (r : Option Refusal) → is_none (after_more r) ≡ false
+more_refused None = refl
+more_refused (Some r) = refl
 
 -- a state that brings no refusal, and what a write of p into the part after its bytes left there
 module _ (s : Pieces) (full : length s.bytes ≡ longest) (none : handed_in_of s ≡ None) (p left : List ℕ)

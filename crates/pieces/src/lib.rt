@@ -83,8 +83,7 @@ pub fn end(state: Pieces, output: &mut [u8]) -> Ended
         };
     }
     let count = usize::from(state.count);
-    let bytes = state.bytes;
-    let written = listing::answer_listing(&bytes[..count], output);
+    let written = listing::answer_listing(&state.bytes[..count], output);
     Ended {
         state: empty(written.err()),
         written,

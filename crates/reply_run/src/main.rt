@@ -12,31 +12,25 @@ fn main(rt: HostRuntime) {
 }
 
 fn try_all(rt: &(impl Print + Eprint), cases: &[u8]) {
-    let mut at: usize = 0;
-    while cases.len() - at >= 4 {
-        let room = words::number_at(cases, at);
-        let length = words::number_at(cases, at + 2) as usize;
-        let start = at + 4;
-        if cases.len() - start < length {
+    let mut rest = cases;
+    while let Some((lengths, after)) = rest.split_at_checked(4) {
+        let room = words::number_at(lengths, 0);
+        let length = usize::from(words::number_at(lengths, 2));
+        let Some((listing, next)) = after.split_at_checked(length) else {
+            return;
+        };
+        if !try_one(rt, listing, room) {
             return;
         }
-        let end = start + length;
-        if !try_one(rt, &cases[start..end], room) {
-            return;
-        }
-        at = end;
+        rest = next;
     }
 }
 
 // Replies to one listing, in an output of `room` bytes, and answers whether the reply was written.
 fn try_one(rt: &(impl Print + Eprint), listing: &[u8], room: u16) -> bool {
     let mut output = [0u8; 65536];
-    let n = room as usize;
-    write_reply(rt, listing, &mut output[..n])
-}
-
-fn write_reply(rt: &(impl Print + Eprint), listing: &[u8], output: &mut [u8]) -> bool {
+    let output = &mut output[..usize::from(room)];
     let n = reply::reply_to(listing, output);
-    let count = [(n % 256) as u8, (n / 256 % 256) as u8];
+    let count = (n as u16).to_le_bytes();
     blocks::write_block(rt, &count) && blocks::write_block(rt, &output[..n])
 }

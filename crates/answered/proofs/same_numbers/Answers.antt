@@ -1,16 +1,16 @@
--- one more number that is the same, and one that is not
-use Rattle.std.proofs.Common.{sym, ◌∙◌, arith}
-use Rattle.answered.proofs.Same.{same_next, differs_at}
+-- The numbers stand at the places that the range counts.
+use Rattle.std.proofs.Common.{◌+◌, ◌*◌, refl, ◌∙◌, rules, arith}
+use Rattle.std.proofs.lemmas.Iterator.{YieldsList-from_range}
+use Rattle.std.proofs.lemmas.Iterator.Search.{all_from_yields_List}
+use borrow.Author.Tests.{tests}
+use lib.Dec.{eqb}
+use Rattle.words.specs.Numbers.{number_at_of}
+use Rattle.answered.proofs.Same.{same_by_place}
 use Rattle.answered.proofs.same_numbers.Goals as goal
 
-pub returns-then-number_at : goal.returns-then-number_at
-returns-then-number_at c =
+pub returns : goal.returns
+returns c =
     let a = c.args in
-    sym (differs_at a.first.now a.second.now a.at a.count c.loop-i.i (omega arith)
-    (λ e. c.if-number_at.true (c.number_at.ensures ∙ e ∙ sym c.number_at-in-loop-i.ensures)))
-
-pub loop-i-preserved : goal.loop-i-preserved
-loop-i-preserved c =
-    let a = c.args in
-    let e = sym c.number_at.ensures ∙ c.if-number_at.false ∙ c.number_at-in-loop-i.ensures in
-    record { within = omega arith; so_far = same_next a.first.now a.second.now a.at c.loop-i.i c.loop-i.invariant.so_far e }
+    all_from_yields_List (λ k. eqb (number_at_of a.first.now (a.at + 2 * k)) (number_at_of a.second.now (a.at + 2 * k))) _ _ _ c.all.ensures.ran
+    (YieldsList-from_range 0 a.count a.count refl (omega arith)) (λ x r q k. search (rules, tests))
+    ∙ same_by_place a.first.now a.second.now a.at a.count

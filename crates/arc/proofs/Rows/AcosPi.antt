@@ -65,11 +65,11 @@ pub past_one : (p : ℕ) → 0x4000 < p → p < 0xC000 → row p ≡ names 0x800
 unfolding row
 past_one p l h = rw (lt-ltb 0x4000 p l, lt-ltb p 0xC000 h)
 
-pub near_zero : (p : ℕ) → (p < 165) ⊎ (65307 < p) → row p ≡ names 0x3000
+pub near_zero : (p : ℕ) → (p < 165) ⊎ ((165 ≤ p) × (65307 < p)) → row p ≡ names 0x3000
 unfolding row
 near_zero p c =
     ⊎_elim (λ h. rw (le-ltb 0x4000 p (omega arith), lt-ltb p 165 h))
-    (λ h. rw (lt-ltb 0x4000 p (omega arith), le-ltb p 0xC000 (omega arith), le-ltb p 165 (omega arith), lt-ltb 65307 p h)) c
+    (λ (l, h). rw (lt-ltb 0x4000 p (omega arith), le-ltb p 0xC000 (omega arith), le-ltb p 165 l, lt-ltb 65307 p h)) c
 
 abs_signed : (b : Bool) (m : ℕ) → nat_abs (with_sign b m) ≡ m
 abs_signed true zero = refl

@@ -4,21 +4,17 @@ ghost use Rattle.posit.specs.Number.{magnitude, size};
 ghost use Rattle.rows.specs.Rows.{Meets, MeetsSided};
 ghost use Rattle.arc.specs.AcosPi.{poly, arc, row};
 
+use crate::kernel::{Angle, isqrt};
 use posit::Sided;
 
 pub fn acos_pi_sided(p: u16) -> Sided
     ensures { MeetsSided (row p) result }
 {
-    if 0x4000 < p {
-        if p < 0xC000 {
-            return posit::outright(0x8000); // x is past 1 or -1, or NaR
-        }
+    if 0x4000 < p && p < 0xC000 {
+        return posit::outright(0x8000); // x is past 1 or -1, or NaR
     }
-    if p < 165 {
+    if p < 165 || 65307 < p {
         return posit::outright(0x3000); // so near to zero that the answer is a quarter turn
-    }
-    if 65307 < p {
-        return posit::outright(0x3000);
     }
     posit::round_sided(angle(p), -30)
 }
@@ -27,8 +23,7 @@ pub fn acos_pi_sided(p: u16) -> Sided
 pub fn acos_pi(p: u16) -> u16
     ensures { Meets (row p) result }
 {
-    let a = acos_pi_sided(p);
-    a.pattern
+    acos_pi_sided(p).pattern
 }
 
 // The angle in units of 2^-30; from 1/2 on, and from -1/2 down, by way of the square root of 1 - |x|. What the polynomial gives
@@ -42,11 +37,11 @@ fn angle(p: u16) -> u64
     let x = posit::units(size);
     let by_root = 0x2fff < size;
     let f = if by_root {
-        crate::kernel::isqrt((0x1000_0000 - x) << 27)
+        isqrt((0x1000_0000 - x) << 27)
     } else {
         x
     };
-    let k = acos_poly(f);
+    let k = acos_poly(f).units;
     let turned = if by_root { 2 * k } else { k };
     if by_root == negative {
         turned
@@ -55,15 +50,17 @@ fn angle(p: u16) -> u64
     }
 }
 
-fn acos_poly(f: u64) -> u64
+#[tactic(auto, unfolding(crate::specs::AcosPi::poly))]
+fn acos_poly(f: u64) -> Angle
     requires { f ≤ 2 ^ 27 }
-    ensures value { result ≡ poly f }
-    ensures upper_bound { result ≤ 2 ^ 29 }
+    ensures { result.units ≡ poly f }
 {
     let fsq = (f * f) >> 28;
     let a = 13_696 + ((fsq * 7_955) >> 27);
     let b = 100_510 + ((fsq * a) >> 26);
     let c = 1_780_047 + ((fsq * b) >> 25);
     let d = 42_722_829 + ((fsq * c) >> 26);
-    0x2000_0000 - ((f * d) >> 25)
+    Angle {
+        units: 0x2000_0000 - ((f * d) >> 25),
+    }
 }

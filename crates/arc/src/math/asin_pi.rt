@@ -4,6 +4,7 @@ ghost use Rattle.posit.specs.Number.{magnitude};
 ghost use Rattle.rows.specs.Rows.{Meets, MeetsSided};
 ghost use Rattle.arc.specs.AsinPi.{poly, arc, row};
 
+use crate::kernel::{Angle, isqrt};
 use posit::Sided;
 
 pub fn asin_pi_sided(p: u16) -> Sided
@@ -17,7 +18,7 @@ pub fn asin_pi_sided(p: u16) -> Sided
     if 0x4000 < size {
         return posit::outright(0x8000); // x is past 1 or -1, or NaR
     }
-    let k = angle(size) % 0x4000_0000; // the remainder tells the compiler: below 1
+    let k = angle(size).units % 0x4000_0000; // the remainder tells the compiler: below 1
     posit::signed_sided(negative, posit::round_sided(k, -30))
 }
 
@@ -25,23 +26,26 @@ pub fn asin_pi_sided(p: u16) -> Sided
 pub fn asin_pi(p: u16) -> u16
     ensures { Meets (row p) result }
 {
-    let a = asin_pi_sided(p);
-    a.pattern
+    asin_pi_sided(p).pattern
 }
 
 // The angle in units of 2^-30; from 1/2 on by way of the square root of 1 - x.
-fn angle(size: u16) -> u64
+fn angle(size: u16) -> Angle
     requires { (0 < size) × (size ≤ 0x4000) }
-    ensures value { result ≡ arc size (magnitude 1 16 size) }
-    ensures upper_bound { result ≤ 2 ^ 29 }
+    ensures { result.units ≡ arc size (magnitude 1 16 size) }
 {
     let x = posit::units(size);
     if size < 0x3000 {
-        return asin_poly(x);
+        return Angle {
+            units: asin_poly(x),
+        };
     }
-    0x2000_0000 - 2 * asin_poly(crate::kernel::isqrt((0x1000_0000 - x) << 27))
+    Angle {
+        units: 0x2000_0000 - 2 * asin_poly(isqrt((0x1000_0000 - x) << 27)),
+    }
 }
 
+#[tactic(auto, unfolding(crate::specs::AsinPi::poly))]
 fn asin_poly(f: u64) -> u64
     requires { f ≤ 2 ^ 27 }
     ensures value { result ≡ poly f }

@@ -1,7 +1,15 @@
--- A call that is not refused fills the places from its start on, up to its limit or the end.
+-- A call from beyond the end does nothing; one that is not refused fills the places from its start on, up to its limit or the end.
 use Rattle.std.proofs.Common.{sym, ◌∙◌, arith}
-use Rattle.batch.proofs.Order.{accepted_does}
+use Rattle.p16e1.proofs.ByNumber.{numbered_is}
+use Rattle.refusals.specs.declared.Refusal.TheVariants.{Start}
+use Rattle.batch.proofs.Order.{start_beyond, refused_does_nothing, accepted_does}
 use Rattle.batch.proofs.batch.Goals as goal
+
+pub returns-then-input-start-clause-value : goal.returns-then-input-start-clause-value
+returns-then-input-start-clause-value c =
+    let a = c.args in
+    let k = numbered_is a.function _ (sym c.try_from.ensures ∙ c.in_ok-function.was) in
+    sym (refused_does_nothing a.function a.input.now a.output.now a.start a.limit Start (start_beyond a.function _ _ _ k.0 (omega arith) (omega arith))).0
 
 pub returns : goal.returns
 returns c =

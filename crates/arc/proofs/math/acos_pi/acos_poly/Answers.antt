@@ -1,7 +1,6 @@
 -- Each product fits, by bounds on the factors.
-use Rattle.std.proofs.Common.{ℕ, ◌^◌, ◌≤◌, List, [], ◌∷◌, refl, arith}
+use Rattle.std.proofs.Common.{ℕ, ◌^◌, ◌≤◌, List, [], ◌∷◌, arith}
 use mir.Facts.{Fits-of_lt}
-use Rattle.arc.specs.AcosPi.{poly}
 use Rattle.rows.proofs.Horner.{Step, plus, SquareProducts, square_products}
 use Rattle.arc.proofs.math.acos_pi.acos_poly.Goals as goal
 
@@ -16,7 +15,3 @@ overflow_mul-result c = Fits-of_lt (let k = bounds c.requires in omega arith)
 
 pub overflow_sub-result : goal.overflow_sub-result
 overflow_sub-result c = let k = bounds c.requires in omega arith
-
-pub returns-clause-value : goal.returns-clause-value
-unfolding poly
-returns-clause-value c = refl

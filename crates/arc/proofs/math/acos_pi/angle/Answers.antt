@@ -63,23 +63,23 @@ acos_poly-k-requires c =
 pub returns-then-by_root-negative : goal.returns-then-by_root-negative
 returns-then-by_root-negative c =
     arc-is c.args.p c.signed-size.result c.units-x.result c.requires c.signed-size.ensures c.units-x.ensures
-    c.if-by_root.f c.acos_poly-k.result c.if-by_root-2.turned true
+    c.if-by_root.f c.acos_poly-k.result.units c.if-by_root-2.turned true
     (elim c.if-by_root.branch [
       | then-by_root w ↦ rooted c.args.p c.signed-size.result c.units-x.result c.requires c.signed-size.ensures c.units-x.ensures _ _ w.if-by_root.true w.f-is w.isqrt-f.ensures
       | else-by_root w ↦ plain c.args.p c.signed-size.result c.units-x.result c.requires c.signed-size.ensures c.units-x.ensures _ w.if-by_root.false w.f-is
     ])
-    c.acos_poly-k.ensures.value
+    c.acos_poly-k.ensures
     (elim c.if-by_root-2.branch [ then-by_root-2 w ↦ rw (lt-ltb 0x2fff _ w.if-by_root-2.true) w.turned-is | else-by_root-2 w ↦ rw (le-ltb 0x2fff _ w.if-by_root-2.false) w.turned-is ])
     c.if-by_root-negative.true
 
 pub returns-else-by_root-negative : goal.returns-else-by_root-negative
 returns-else-by_root-negative c =
     arc-is c.args.p c.signed-size.result c.units-x.result c.requires c.signed-size.ensures c.units-x.ensures
-    c.if-by_root.f c.acos_poly-k.result c.if-by_root-2.turned false
+    c.if-by_root.f c.acos_poly-k.result.units c.if-by_root-2.turned false
     (elim c.if-by_root.branch [
       | then-by_root w ↦ rooted c.args.p c.signed-size.result c.units-x.result c.requires c.signed-size.ensures c.units-x.ensures _ _ w.if-by_root.true w.f-is w.isqrt-f.ensures
       | else-by_root w ↦ plain c.args.p c.signed-size.result c.units-x.result c.requires c.signed-size.ensures c.units-x.ensures _ w.if-by_root.false w.f-is
     ])
-    c.acos_poly-k.ensures.value
+    c.acos_poly-k.ensures
     (elim c.if-by_root-2.branch [ then-by_root-2 w ↦ rw (lt-ltb 0x2fff _ w.if-by_root-2.true) w.turned-is | else-by_root-2 w ↦ rw (le-ltb 0x2fff _ w.if-by_root-2.false) w.turned-is ])
     c.if-by_root-negative.false

@@ -26,8 +26,8 @@ returns c =
     let p = c.args.p in
     let s = c.signed-size.ensures ∙ size_by_bit p in
     let l : size 16 p ≤ 0x4000 = rw s at c.if-size-gt16384.false in
-    let e : c.angle-k.result % 2 ^ 30 ≡ arc (size 16 p) (magnitude 1 16 (size 16 p)) =
-    mod-eq_of_lt (let l = c.angle-k.ensures.upper_bound in omega arith) ∙ c.angle-k.ensures.value
+    let e : c.angle-k.result.units % 2 ^ 30 ≡ arc (size 16 p) (magnitude 1 16 (size 16 p)) =
+    mod-eq_of_lt (omega arith) ∙ c.angle-k.ensures
     ∙ ap (λ (u : ℕ). arc u (magnitude 1 16 u)) s in
     rw c.signed_sided.ensures
     (rw (← sign_bit p (not_nar p l)) at (by_arc p c.round_sided.result (omega arith) (omega arith) l (rw e at c.round_sided.ensures)))

@@ -1,7 +1,6 @@
 -- Each product fits, by bounds on the factors.
-use Rattle.std.proofs.Common.{ℕ, ◌^◌, ◌≤◌, List, [], ◌∷◌, refl, arith}
+use Rattle.std.proofs.Common.{ℕ, ◌^◌, ◌≤◌, List, [], ◌∷◌, arith}
 use mir.Facts.{Fits-of_lt}
-use Rattle.arc.specs.AsinPi.{poly}
 use Rattle.rows.proofs.Horner.{Step, plus, SquareProducts, square_products}
 use Rattle.arc.proofs.math.asin_pi.asin_poly.Goals as goal
 
@@ -13,10 +12,6 @@ bounds h = square_products 28 (2 ^ 27) 3855 steps h
 
 pub overflow_mul-result : goal.overflow_mul-result
 overflow_mul-result c = Fits-of_lt (let k = bounds c.requires in omega arith)
-
-pub returns-clause-value : goal.returns-clause-value
-unfolding poly
-returns-clause-value c = refl
 
 pub returns-clause-upper_bound : goal.returns-clause-upper_bound
 returns-clause-upper_bound c = let k = bounds c.requires in omega arith

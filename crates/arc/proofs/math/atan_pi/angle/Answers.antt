@@ -22,16 +22,16 @@ far u l h = (le_trans from-eight (no_larger 27109 u (lit≤ tt) l h), le_trans (
 pub small_angle-requires : goal.small_angle-requires
 small_angle-requires c = rw c.units-x.ensures (below_one c.args.size (omega arith) (omega arith))
 
-pub returns-then-size-le4925-clause-value : goal.returns-then-size-le4925-clause-value
-returns-then-size-le4925-clause-value c =
-    c.small_angle.ensures.value ∙ ap small c.units-x.ensures ∙ sym (quotient-small c.args.size _ (omega arith))
+pub returns-then-size-le4925 : goal.returns-then-size-le4925
+returns-then-size-le4925 c =
+    c.small_angle.ensures ∙ ap small c.units-x.ensures ∙ sym (quotient-small c.args.size _ (omega arith))
 
 pub atan_poly-requires : goal.atan_poly-requires
 atan_poly-requires c = rw c.units-x.ensures (to_one c.args.size (omega arith) (omega arith))
 
-pub returns-then-size-le16383-clause-value : goal.returns-then-size-le16383-clause-value
-returns-then-size-le16383-clause-value c =
-    c.atan_poly.ensures.value ∙ ap poly c.units-x.ensures ∙ sym (quotient-below_one c.args.size _ (omega arith) (omega arith))
+pub returns-then-size-le16383 : goal.returns-then-size-le16383
+returns-then-size-le16383 c =
+    c.atan_poly.ensures ∙ ap poly c.units-x.ensures ∙ sym (quotient-below_one c.args.size _ (omega arith) (omega arith))
 
 pub nonzero_div-x : goal.nonzero_div-x
 nonzero_div-x c = rw c.units-x.ensures (let l = from_one c.args.size (omega arith) (omega arith) in omega arith)
@@ -40,15 +40,15 @@ pub atan_poly-requires-then-size-le27108 : goal.atan_poly-requires-then-size-le2
 atan_poly-requires-then-size-le27108 c =
     rw c.units-x.ensures (div-le_of_le-mul _ (let l = from_one c.args.size (omega arith) (omega arith) in omega arith))
 
-pub returns-then-size-le27108-clause-value : goal.returns-then-size-le27108-clause-value
-returns-then-size-le27108-clause-value c =
+pub returns-then-size-le27108 : goal.returns-then-size-le27108
+returns-then-size-le27108 c =
     ap (λ (y : ℕ). 0x2000_0000 - y)
-    (c.atan_poly-then-size-le27108.ensures.value ∙ ap (λ (x : ℕ). poly (2 ^ 40 / (x / 2 ^ 16))) c.units-x.ensures)
+    (c.atan_poly-then-size-le27108.ensures ∙ ap (λ (x : ℕ). poly (2 ^ 40 / (x / 2 ^ 16))) c.units-x.ensures)
     ∙ sym (quotient_from_one c.args.size _ (omega arith) (omega arith))
 
 pub large_angle-requires : goal.large_angle-requires
 large_angle-requires c = rw c.units-x.ensures (let l = far c.args.size (omega arith) (omega arith) in (omega arith, omega arith))
 
-pub returns-clause-value : goal.returns-clause-value
-returns-clause-value c =
-    c.large_angle.ensures.value ∙ ap (λ (x : ℕ). large (x / 2 ^ 20)) c.units-x.ensures ∙ sym (quotient-large c.args.size _ (omega arith))
+pub returns : goal.returns
+returns c =
+    c.large_angle.ensures ∙ ap (λ (x : ℕ). large (x / 2 ^ 20)) c.units-x.ensures ∙ sym (quotient-large c.args.size _ (omega arith))

@@ -25,8 +25,8 @@ returns c =
     let p = c.args.p in
     let s = c.signed-size.ensures ∙ size_by_bit p in
     let k = low_some p (rw s at c.if-size-eq0.false) in
-    let e : c.angle-k.result % 2 ^ 30 ≡ quotient (size 16 p) (magnitude 1 16 (size 16 p)) =
-    mod-eq_of_lt (let l = c.angle-k.ensures.upper_bound in omega arith) ∙ c.angle-k.ensures.value
+    let e : c.angle-k.result.units % 2 ^ 30 ≡ quotient (size 16 p) (magnitude 1 16 (size 16 p)) =
+    mod-eq_of_lt (omega arith) ∙ c.angle-k.ensures
     ∙ ap (λ (u : ℕ). quotient u (magnitude 1 16 u)) s in
     rw c.signed_sided.ensures
     (rw (← sign_bit p k.1) at (by_quotient p c.round_sided.result k.0 (omega arith) k.1 (rw e at c.round_sided.ensures)))

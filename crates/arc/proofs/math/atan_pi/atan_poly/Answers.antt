@@ -1,6 +1,5 @@
 -- Each product fits, by bounds on the factors, and each difference stays above zero.
-use Rattle.std.proofs.Common.{ℕ, ◌+◌, ◌^◌, ◌≤◌, List, [], ◌∷◌, refl, arith, shl_exact, lit≤}
-use Rattle.arc.specs.AtanPi.{poly}
+use Rattle.std.proofs.Common.{ℕ, ◌^◌, ◌≤◌, List, [], ◌∷◌, arith}
 use Rattle.rows.proofs.Horner.{Step, plus, less, SquareProducts, square_products}
 use Rattle.arc.proofs.math.atan_pi.atan_poly.Goals as goal
 
@@ -13,7 +12,3 @@ bounds h = square_products 28 (2 ^ 28) 6969 steps h
 
 pub overflow_sub-g : goal.overflow_sub-g
 overflow_sub-g c = let k = bounds c.requires in omega arith
-
-pub returns-clause-value : goal.returns-clause-value
-unfolding poly
-returns-clause-value c = rw (shl_exact {a = c.args.f + 1} 29 30 64 (omega arith) (lit≤ tt)) refl
