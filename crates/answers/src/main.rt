@@ -12,12 +12,11 @@ fn main(rt: HostRuntime) -> ExitCode {
     }
     let mut input = [0u8; 2073];
     let block = blocks::read_block(&rt, &mut input);
-    if block.failed {
+    if block.then == blocks::Then::Failed {
         return ExitCode::FAILURE;
     }
-    let n = block.count;
     let mut output = [0u8; 22554];
-    let written = reply::reply_to(&input[..n], &mut output);
+    let written = reply::reply_to(block.bytes, &mut output);
     if blocks::write_block(&rt, &output[..written]) {
         ExitCode::SUCCESS
     } else {

@@ -1,12 +1,7 @@
--- A block converted word by word: what one word more adds to what is written in front.
-use Prim.Native.Nat.{ℕ, zero, suc, ◌+◌, ◌*◌, ◌/◌, ◌≤◌}
-use mathlib.Core.Path.{◌≡◌, refl, sym, ap, ◌∙◌}
-use mathlib.Core.List.{List, [], ◌∷◌, ◌++◌, append_assoc, append-nil}
-use native.Mathlib.Omega.{arith}
-use native.Mathlib.Numerals.{add-one}
-use native.Mathlib.Nat.{add-zero, zero-add, mul-zero, mul-suc}
-use lib.ListN.{length, take, drop, length-append}
-use lib.Seq.{sets, sets-eq, length-take-le, take_at}
+-- A block converted word by word: what one word more gives, and the chunk that a word stands in.
+use Rattle.std.proofs.Common.{◌≡◌, ℕ, zero, suc, ◌+◌, ◌*◌, ◌/◌, ◌<◌, ◌≤◌, List, [], ◌∷◌, ◌++◌, length, take, drop, get_or, refl, ap, ◌∙◌, arith, append_assoc, append-nil, add-one, add-zero, zero-add, mul-zero, mul-suc}
+use Rattle.std.proofs.lemmas.List.{get_or-drop, get_or-take}
+use Rattle.std.specs.Simd.{first_chunks}
 use Rattle.blocks.specs.Words.{little_endian, word_at, words_at, for_each}
 
 pub length-little_endian : (k w : ℕ) → length (little_endian k w) ≡ k
@@ -23,26 +18,26 @@ for_each-snoc : (g : ℕ → List ℕ) (ws : List ℕ) (w : ℕ) → for_each g 
 for_each-snoc g [] w = append-nil (g w)
 for_each-snoc g (v ∷ ws) w = rw (for_each-snoc g ws w, append_assoc)
 
--- bytes that are written after the first ones
-written_next : (l vs : List ℕ) (at : ℕ) → at + length vs ≤ length l → take (at + length vs) (sets l at vs) ≡ take at l ++ vs
-written_next l vs at h =
-    rw (sets-eq vs l at h)
-    (take_at (take at l ++ vs) (drop (at + length vs) l) (at + length vs)
-    (length-append (take at l) vs ∙ ap (λ (n : ℕ). n + length vs) (length-take-le at l (omega arith))))
+-- what one word more gives
+pub one_more : (k : ℕ) (g : ℕ → List ℕ) (b : List ℕ) (n : ℕ) → for_each g (words_at k b 0 (n + 1)) ≡ for_each g (words_at k b 0 n) ++ g (word_at k b (k * n))
+one_more k g b n =
+    ap (λ (j : ℕ). for_each g (words_at k b 0 j)) (add-one n) ∙ ap (for_each g) (words_at-suc k b 0 n)
+    ∙ for_each-snoc g (words_at k b 0 n) (word_at k b (0 + k * n)) ∙ ap (λ (j : ℕ). for_each g (words_at k b 0 n) ++ g (word_at k b j)) (zero-add (k * n))
 
--- words of k bytes, each of which gives m
-module _ (k m : ℕ) (g : ℕ → List ℕ) (widths : (w : ℕ) → length (g w) ≡ m) (b : List ℕ) where
-  -- what is written for the first n words
-  abbrev pub first : ℕ → List ℕ
-  first n = for_each g (words_at k b 0 n)
+-- a word of a block is the one that its chunk of the block holds
+word_at-drop : (k : ℕ) (b : List ℕ) (m at : ℕ) → word_at k (drop m b) at ≡ word_at k b (m + at)
+word_at-drop zero b m at = refl
+word_at-drop (suc k) b m at =
+    let e : m + suc at ≡ suc (m + at) = omega arith in
+    rw (get_or-drop m b at 0, word_at-drop k b m (suc at), e)
 
-  pub one_more : (l l₁ : List ℕ) (n : ℕ) → m * n + m ≤ length l → take (m * n) l ≡ first n → l₁ ≡ sets l (m * n) (g (word_at k b (k * n)))
-      → take (m * (n + 1)) l₁ ≡ first (n + 1)
-  one_more l l₁ n fits before now =
-      let w = word_at k b (k * n) in
-      let e : m * (n + 1) ≡ m * n + length (g w) = omega (arith, mul-suc m n, add-one n, widths w) in
-      let f : word_at k b (0 + k * n) ≡ w = ap (word_at k b) (zero-add (k * n)) in
-      let after : first (n + 1) ≡ first n ++ g w =
-      ap first (add-one n) ∙ ap (for_each g) (words_at-suc k b 0 n)
-      ∙ for_each-snoc g (words_at k b 0 n) (word_at k b (0 + k * n)) ∙ ap (λ (v : ℕ). first n ++ g v) f in
-      rw (now, e, written_next l (g w) (m * n) (omega (arith, widths w)), before) (sym after)
+word_at-take : (k : ℕ) (b : List ℕ) (n at : ℕ) → at + k ≤ n → word_at k (take n b) at ≡ word_at k b at
+word_at-take zero b n at h = refl
+word_at-take (suc k) b n at h = rw (get_or-take n b at 0 (omega arith), word_at-take k b n (suc at) (omega arith))
+
+pub chunk_word : (k : ℕ) (b : List ℕ) (n i : ℕ) (d : List ℕ) → i < n → word_at k (get_or (first_chunks k n b) i d) 0 ≡ word_at k b (k * i)
+chunk_word k b zero i d h = absurd (omega arith)
+chunk_word k b (suc n) zero d h = rw (mul-zero, word_at-take k b k 0 (omega arith))
+chunk_word k b (suc n) (suc i) d h =
+    let e : k + k * i ≡ k * suc i = omega (arith, mul-suc k i) in
+    rw (chunk_word k (drop k b) n i d (omega arith), word_at-drop k b k (k * i), e)

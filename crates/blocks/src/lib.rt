@@ -2,13 +2,14 @@
 // begins `failed: ` and ends with the system's words and its number for them.
 #![tactic(auto)]
 
-ghost use Rattle.std.specs.Prelude.{◌≡◌, length, take, true, false};
+ghost use Rattle.std.specs.Prelude.{◌≡◌, ◌≤◌, length};
 ghost use Rattle.std.specs.Io.KnownBytes.{Consumes, IsAtEnd};
-ghost use Rattle.io.specs.Counts.{IsPrefixLen};
+ghost use Rattle.blocks.specs.Conversions.{TakesBlocks, CountsWithin};
 
 use std::env::{Env, FillError};
 use std::fs::Files;
 use std::io::{Error, Input, Read};
+use std::process::ExitCode;
 use std::{fs, str};
 
 // Whether the program was started without words, for one that takes none. Words are told, as a failure.
@@ -23,24 +24,38 @@ pub fn without_words(rt: &(impl Env + Eprint)) -> bool {
     false
 }
 
+// Room for `N` bytes. A proof takes its length from here: computed, a long literal's would go a step deep for each byte.
+pub fn room<const N: usize>() -> [u8; N]
+    ensures { N ≡ length result }
+{
+    [0; N]
+}
+
 // Room for a block of input, large enough that a long input takes few calls.
 pub fn input_block() -> [u8; 131072]
     ensures { 131072 ≡ length result }
 {
-    [0; 131072]
+    room()
 }
 
-// What a block of input holds: how many bytes, whether it is full, so that more may follow, and whether a read failed.
+// What follows a block of input: more may, nothing does, or a read failed.
+#[derive(Clone, Copy, PartialEq, Eq)]
+pub enum Then {
+    More,
+    End,
+    Failed,
+}
+
+// A block of input: its bytes, and what follows them.
 #[derive(Clone, Copy)]
-pub struct Block {
-    pub count: usize,
-    pub full: bool,
-    pub failed: bool,
+pub struct Block<'a> {
+    pub bytes: &'a [u8],
+    pub then: Then,
 }
 
 // Reads standard input into `block` until it is full, the input ends or a read fails.
-pub fn read_block(rt: &(impl Input + Eprint), block: &mut [u8]) -> Block
-    ensures { IsPrefixLen result.count block.new }
+pub fn read_block<'a>(rt: &(impl Input + Eprint), block: &'a mut [u8]) -> Block<'a>
+    ensures { length result.bytes.now ≤ length block.old }
 {
     let mut input = rt.reader();
     read_from(rt, "reading standard input", &mut input, block)
@@ -48,8 +63,12 @@ pub fn read_block(rt: &(impl Input + Eprint), block: &mut [u8]) -> Block
 
 // Reads the file that the program's word number `word` names into `block` until it is full, the file ends or a read fails. A file
 // that cannot be opened is told, and has failed.
-pub fn read_file(rt: &(impl Env + Files + Eprint), word: usize, block: &mut [u8]) -> Block
-    ensures { IsPrefixLen result.count block.new }
+pub fn read_file<'a>(
+    rt: &(impl Env + Files + Eprint),
+    word: usize,
+    block: &'a mut [u8],
+) -> Block<'a>
+    ensures { length result.bytes.now ≤ length block.old }
 {
     let mut name = [0u8; 4096];
     match rt.arg(word, &mut name) {
@@ -67,8 +86,8 @@ const TOO_LONG: i32 = 36;
 const NOT_UTF8: i32 = 84;
 
 // A path is UTF-8 to the library.
-fn read_named(rt: &(impl Files + Eprint), name: &[u8], block: &mut [u8]) -> Block
-    ensures { IsPrefixLen result.count block.new }
+fn read_named<'a>(rt: &(impl Files + Eprint), name: &[u8], block: &'a mut [u8]) -> Block<'a>
+    ensures { length result.bytes.now ≤ length block.old }
 {
     let Ok(path) = str::from_utf8(name) else {
         return not_named(rt, NOT_UTF8, block);
@@ -80,8 +99,8 @@ fn read_named(rt: &(impl Files + Eprint), name: &[u8], block: &mut [u8]) -> Bloc
 }
 
 // There is no file to read, for a reason that the system has a number for.
-fn not_named(rt: &impl Eprint, code: i32, block: &mut [u8]) -> Block
-    ensures { IsPrefixLen result.count block.new }
+fn not_named<'a>(rt: &impl Eprint, code: i32, block: &'a mut [u8]) -> Block<'a>
+    ensures { length result.bytes.now ≤ length block.old }
 {
     not_read(
         rt,
@@ -92,14 +111,13 @@ fn not_named(rt: &impl Eprint, code: i32, block: &mut [u8]) -> Block
 }
 
 // Nothing was read, for a reason that the system has.
-fn not_read(rt: &impl Eprint, what: &str, why: Error, block: &mut [u8]) -> Block
-    ensures { IsPrefixLen result.count block.new }
+fn not_read<'a>(rt: &impl Eprint, what: &str, why: Error, block: &'a mut [u8]) -> Block<'a>
+    ensures { length result.bytes.now ≤ length block.old }
 {
     tell(rt, what, why);
     Block {
-        count: 0,
-        full: false,
-        failed: true,
+        bytes: &block[..0],
+        then: Then::Failed,
     }
 }
 
@@ -109,39 +127,34 @@ fn tell(rt: &impl Eprint, what: &str, why: Error) {
 }
 
 // What a reader has, as far as the block has room for it.
-fn read_from<R: Read>(rt: &impl Eprint, what: &str, reader: &mut R, block: &mut [u8]) -> Block
-    ensures prefix { IsPrefixLen result.count block.new }
-    ensures bytes { Consumes (R.remaining reader.old) (R.remaining reader.new) (take result.count block.new) }
-    ensures full { result.full ≡ true → result.count ≡ length block.new }
-    ensures end { result.full ≡ false → result.failed ≡ false → IsAtEnd (R.remaining reader.new) }
+fn read_from<'a, R: Read>(
+    rt: &impl Eprint,
+    what: &str,
+    reader: &mut R,
+    block: &'a mut [u8],
+) -> Block<'a>
+    ensures within { length result.bytes.now ≤ length block.old }
+    ensures bytes { Consumes (R.remaining reader.old) (R.remaining reader.new) result.bytes.now }
+    ensures more { result.then ≡ Then.More → length result.bytes.now ≡ length block.old }
+    ensures end { result.then ≡ Then.End → IsAtEnd (R.remaining reader.new) }
 {
     let mut count: usize = 0;
-    while count < block.len() {
+    let then = loop {
+        if count == block.len() {
+            break Then::More;
+        }
         match reader.read(&mut block[count..]) {
-            Ok(more) => {
-                if more == 0 {
-                    return Block {
-                        count,
-                        full: false,
-                        failed: false,
-                    };
-                }
-                count += more;
-            }
+            Ok(0) => break Then::End,
+            Ok(more) => count += more,
             Err(e) => {
                 tell(rt, what, e);
-                return Block {
-                    count,
-                    full: false,
-                    failed: true,
-                };
+                break Then::Failed;
             }
         }
-    }
+    };
     Block {
-        count,
-        full: true,
-        failed: false,
+        bytes: &block[..count],
+        then,
     }
 }
 
@@ -154,4 +167,34 @@ pub fn write_block(rt: &(impl Print + Eprint), block: &[u8]) -> bool {
             false
         }
     }
+}
+
+// Converts standard input: for each block, what `convert` puts into the first bytes of `output` goes to standard output. It ends with
+// the input, or at the first read or write that fails. A proved loop has to end, and nothing says that the input does: no run uses up
+// its turns.
+pub fn convert_input<F: Fn(&[u8], &mut [u8]) -> usize>(
+    rt: &(impl Env + Input + Print + Eprint),
+    output: &mut [u8],
+    convert: F,
+) -> ExitCode
+    requires callable { TakesBlocks (length output.old) (F.pre convert) }
+    requires within { CountsWithin (F.post convert) }
+{
+    if !without_words(rt) {
+        return ExitCode::FAILURE;
+    }
+    let mut input = input_block();
+    for _ in 0..u64::MAX {
+        let block = read_block(rt, &mut input);
+        let written = convert(block.bytes, output);
+        if !write_block(rt, &output[..written]) {
+            return ExitCode::FAILURE;
+        }
+        match block.then {
+            Then::More => {}
+            Then::End => break,
+            Then::Failed => return ExitCode::FAILURE,
+        }
+    }
+    ExitCode::SUCCESS
 }

@@ -1,19 +1,21 @@
 -- The bytes that the program writes for an f64 are those of its definition.
-use Prim.Native.Nat.{ℕ, ◌+◌, ◌*◌, ◌/◌, ◌%◌, ◌^◌, ◌≤◌, ◌<◌}
-use mathlib.Core.Path.{◌≡◌, refl, ap, ◌∙◌}
-use mathlib.Core.List.{List}
+use Prim.Native.Nat.{ℕ, ◌+◌, ◌*◌, ◌≤◌, ◌<◌}
+use mathlib.Core.Path.{◌≡◌, refl, sym, ap, ◌∙◌}
+use mathlib.Core.List.{List, [], ◌++◌}
 use native.Mathlib.Omega.{arith}
-use lib.ListN.{length, take}
-use lib.Seq.{sets}
+use lib.ListN.{length, take, get_or}
+use borrow.Rule.Slice.PartMut.{put_mid}
+use Rattle.std.specs.Int.{w16, w64, from_le_bytes, to_le_bytes}
+use Rattle.std.specs.Simd.{first_chunks}
+use Rattle.std.proofs.lemmas.Slice.{take-put_mid}
 use lib.Ieee.{Float, nan, inf, fin, binary64, of_bits}
 use Rattle.posit.specs.Number.{with_sign}
 use Rattle.posit.specs.Rounding.{dyadic}
 use Rattle.posit.proofs.Exists.{answered}
 use Rattle.real.specs.Reals.{FromF64}
 use Rattle.real.proofs.OneAnswer.{one_pattern}
-use Rattle.words.specs.Numbers.{bytes_of as numberBytes}
 use Rattle.blocks.specs.Words.{little_endian, word_at, words_at, for_each}
-use Rattle.blocks.proofs.Converting.{length-little_endian, one_more}
+use Rattle.blocks.proofs.Converting.{chunk_word, one_more}
 use Rattle.patterns.specs.Patterns.{pattern_of, bytes_of}
 
 answers : (x : Float) → FromF64 x (pattern_of x)
@@ -21,15 +23,16 @@ answers nan = refl
 answers (inf s) = refl
 answers (fin s m e) = answered 1 16 (omega arith) (dyadic (with_sign s m) e)
 
--- a pattern's two bytes
-pair : (p : ℕ) → p < 2 ^ 16 → numberBytes p ≡ little_endian 2 p
-pair p h = let e : p / 256 % 256 ≡ p / 256 = omega arith in rw e
-
 -- one f64 more of a block
-pub real_more : (b l l₁ : List ℕ) (n bits p : ℕ) → 2 * n + 2 ≤ length l → take (2 * n) l ≡ for_each bytes_of (words_at 8 b 0 n) → bits ≡ word_at 8 b (8 * n)
-    → p < 2 ^ 16 → FromF64 (of_bits binary64 bits) p → l₁ ≡ sets l (2 * n) (numberBytes p) → take (2 * (n + 1)) l₁ ≡ for_each bytes_of (words_at 8 b 0 (n + 1))
-real_more b l l₁ n bits p fits before read small given now =
+pub real_more : (b : List ℕ) (cs : List (List ℕ)) (l vs : List ℕ) (n k i bits p : ℕ) → cs ≡ first_chunks 8 n b → i < n → 2 * i + 2 ≤ length l
+    → take (2 * i) l ≡ for_each bytes_of (words_at 8 b 0 i) → bits ≡ from_le_bytes w64 (get_or cs i [])
+    → FromF64 (of_bits binary64 bits) p → vs ≡ to_le_bytes w16 p
+    → take (2 * (i + 1)) (put_mid (2 * i) k l vs) ≡ for_each bytes_of (words_at 8 b 0 (i + 1))
+real_more b cs l vs n k i bits p chunks within fits before read given now =
+    let same : from_le_bytes w64 (get_or cs i []) ≡ word_at 8 (get_or cs i []) 0 = omega arith in
+    let word : bits ≡ word_at 8 b (8 * i) = read ∙ same ∙ ap (λ (c : List (List ℕ)). word_at 8 (get_or c i []) 0) chunks ∙ chunk_word 8 b n i [] within in
     let x = of_bits binary64 bits in
     let e : p ≡ pattern_of x = one_pattern x p (pattern_of x) given (answers x) in
-    one_more 8 2 bytes_of (λ w. length-little_endian 2 (pattern_of (of_bits binary64 w))) b l l₁ n fits before
-    (now ∙ ap (sets l (2 * n)) (pair p small) ∙ ap (λ (q : ℕ). sets l (2 * n) (little_endian 2 q)) e ∙ ap (λ (w : ℕ). sets l (2 * n) (bytes_of w)) read)
+    let many : length vs ≡ 2 = ap length now in
+    take-put_mid (2 * i) k l vs (2 * (i + 1)) (omega arith) (omega arith) ∙ ap (λ (f : List ℕ). f ++ vs) before
+    ∙ ap (λ (w : List ℕ). for_each bytes_of (words_at 8 b 0 i) ++ w) (now ∙ ap (little_endian 2) e ∙ ap bytes_of word) ∙ sym (one_more 8 bytes_of b i)

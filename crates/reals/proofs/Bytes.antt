@@ -1,28 +1,25 @@
 -- The bytes that the program writes for a pattern are those of its definition.
-use Prim.Native.Nat.{ℕ, suc, ◌+◌, ◌*◌, ◌^◌, ◌≤◌}
+use Prim.Native.Nat.{ℕ, suc, ◌+◌, ◌*◌, ◌^◌, ◌<◌, ◌≤◌}
 use mathlib.Core.Path.{◌≡◌, refl, sym, ap, ◌∙◌}
 use mathlib.Core.Bool.{true, false}
-use mathlib.Core.List.{List}
+use mathlib.Core.List.{List, [], ◌++◌}
 use native.Mathlib.Omega.{arith}
-use native.Mathlib.Nat.{mul-one}
-use native.Mathlib.Numerals.{add-one}
+use native.Mathlib.Nat.{mul-one, div-div-eq-div-mul}
 use lib.IntN.{pos, negsuc}
 use lib.Pow.{pow_pos}
-use lib.ListN.{length, take}
-use lib.Seq.{sets}
+use lib.ListN.{length, take, get_or}
+use borrow.Rule.Slice.PartMut.{put_mid}
+use Rattle.std.specs.Int.{w16, w64, from_le_bytes, to_le_bytes}
+use Rattle.std.specs.Simd.{first_chunks}
+use Rattle.std.proofs.lemmas.Slice.{take-put_mid}
 use lib.Ieee.{Float, binary64, to_bits}
 use Rattle.posit.specs.Number.{Number, nar, real, number}
 use Rattle.real.specs.Reals.{Holds, ToF64}
 use Rattle.real.specs.declared.numbers.RealAnswer.TheVariants.{Real, NaR}
 use Rattle.real.proofs.Same.{same_bits}
-use Rattle.words.specs.Numbers.{number_at_of}
 use Rattle.blocks.specs.Words.{little_endian, word_at, words_at, for_each}
-use Rattle.blocks.proofs.Converting.{length-little_endian, one_more}
+use Rattle.blocks.proofs.Converting.{length-little_endian, chunk_word, one_more}
 use Rattle.reals.specs.Reals.{over28, bytes_of}
-
--- a pattern's two bytes
-pair : (b : List ℕ) (i : ℕ) → number_at_of b i ≡ word_at 2 b i
-pair b i = rw add-one (omega arith)
 
 eight_of : (z : Number) → length (bytes_of z) ≡ 8
 eight_of nar = refl
@@ -45,9 +42,17 @@ pub nar_bytes : (p : ℕ) → ToF64 p NaR → little_endian 8 0xFFFF_FFFF_FFFF_F
 nar_bytes p v = sym (ap bytes_of v)
 
 -- one pattern more of a block
-pub pattern_more : (b l l₁ e : List ℕ) (n p : ℕ) → 8 * n + 8 ≤ length l → take (8 * n) l ≡ for_each (λ q. bytes_of (number 1 16 q)) (words_at 2 b 0 n)
-    → p ≡ number_at_of b (2 * n) → e ≡ bytes_of (number 1 16 p) → l₁ ≡ sets l (8 * n) e
-    → take (8 * (n + 1)) l₁ ≡ for_each (λ q. bytes_of (number 1 16 q)) (words_at 2 b 0 (n + 1))
-pattern_more b l l₁ e n p fits before read given now =
-    one_more 2 8 (λ q. bytes_of (number 1 16 q)) eight b l l₁ n fits before
-    (now ∙ ap (sets l (8 * n)) (given ∙ ap (λ (q : ℕ). bytes_of (number 1 16 q)) (read ∙ pair b (2 * n))))
+pub pattern_more : (b : List ℕ) (cs : List (List ℕ)) (l vs : List ℕ) (n k i p : ℕ) → cs ≡ first_chunks 2 n b → i < n → 8 * i + 8 ≤ length l
+    → take (8 * i) l ≡ for_each (λ q. bytes_of (number 1 16 q)) (words_at 2 b 0 i)
+    → p ≡ from_le_bytes w16 (get_or cs i []) → vs ≡ bytes_of (number 1 16 p)
+    → take (8 * (i + 1)) (put_mid (8 * i) k l vs) ≡ for_each (λ q. bytes_of (number 1 16 q)) (words_at 2 b 0 (i + 1))
+pattern_more b cs l vs n k i p chunks within fits before read given =
+    let g = λ (q : ℕ). bytes_of (number 1 16 q) in
+    let same : from_le_bytes w16 (get_or cs i []) ≡ word_at 2 (get_or cs i []) 0 = omega arith in
+    let word : p ≡ word_at 2 b (2 * i) = read ∙ same ∙ ap (λ (c : List (List ℕ)). word_at 2 (get_or c i []) 0) chunks ∙ chunk_word 2 b n i [] within in
+    let many : length vs ≡ 8 = ap length given ∙ eight p in
+    take-put_mid (8 * i) k l vs (8 * (i + 1)) (omega arith) (omega arith) ∙ ap (λ (f : List ℕ). f ++ vs) before
+    ∙ ap (λ (w : List ℕ). for_each g (words_at 2 b 0 i) ++ w) (given ∙ ap g word) ∙ sym (one_more 2 g b i)
+
+pub lowest_first : (w : ℕ) → to_le_bytes w64 w ≡ little_endian 8 w
+lowest_first w = simp div-div-eq-div-mul

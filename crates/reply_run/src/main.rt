@@ -7,8 +7,7 @@
 fn main(rt: HostRuntime) {
     let mut input = blocks::input_block();
     let block = blocks::read_block(&rt, &mut input);
-    let n = block.count;
-    try_all(&rt, &input[..n]);
+    try_all(&rt, block.bytes);
 }
 
 fn try_all(rt: &(impl Print + Eprint), cases: &[u8]) {

@@ -54,7 +54,7 @@ fn half(
 ) -> io::Result<()> {
     let mut buffer = [0u8; 65536];
     let block = blocks::read_block(rt, &mut buffer);
-    for (p, bytes) in patterns.zip(buffer[..block.count].chunks_exact(2)) {
+    for (p, bytes) in patterns.zip(block.bytes.chunks_exact(2)) {
         let rust = u16::from_le_bytes([bytes[0], bytes[1]]);
         let here = function.answer(p);
         if tally.counts(here != rust) {
@@ -72,7 +72,7 @@ fn roots(rt: &(impl Input + Print + Eprint)) -> io::Result<()> {
     let mut buffer = [0u8; 16388];
     let block = blocks::read_block(rt, &mut buffer);
     let mut tally = Tally::default();
-    for (j, bytes) in (0..=4096).zip(buffer[..block.count].chunks_exact(4)) {
+    for (j, bytes) in (0..=4096).zip(block.bytes.chunks_exact(4)) {
         let rust = u64::from(u32::from_le_bytes([bytes[0], bytes[1], bytes[2], bytes[3]]));
         let here = arc::square_root(j << 42);
         if tally.counts(here != rust) {
