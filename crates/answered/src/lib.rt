@@ -46,17 +46,14 @@ pub fn read_pair(first: &[u8], second: &[u8]) -> Result<Sections, Refusal>
 {
     let one = read_answered(first)?;
     let other = read_answered(second)?;
-    if one != other {
-        return Err(Refusal::Different);
-    }
     let Sections {
         functions,
         patterns,
     } = one;
-    if !same_numbers(first, second, 2, functions) {
-        return Err(Refusal::Different);
-    }
-    if !same_numbers(first, second, 4 + 2 * functions, patterns) {
+    if one != other
+        || !same_numbers(first, second, 2, functions)
+        || !same_numbers(first, second, 4 + 2 * functions, patterns)
+    {
         return Err(Refusal::Different);
     }
     Ok(one)

@@ -9,7 +9,8 @@ use std::io;
 fn main(rt: HostRuntime) -> io::Result<()> {
     let mut input = blocks::input_block();
     let block = blocks::read_block(&rt, &mut input);
-    try_all(&rt, block.bytes)
+    let n = block.count;
+    try_all(&rt, &input[..n])
 }
 
 fn try_all(rt: &(impl Print + Eprint), cases: &[u8]) -> io::Result<()> {

@@ -7,8 +7,7 @@ use borrow.Author.Tests.{eq-eqb, ne_eqb, eqb-true, eqb-false}
 use lib.ListN.{length, drop}
 use lib.Dec.{eqb}
 use lib.IntN.{ℤ, neg_ℤ, ◌+ℤ◌, neg_ℤ-+ℤ, neg_ℤ-neg_ℤ, +ℤ_comm}
-use Rattle.refusals.specs.declared.Refusal.TheVariants.{None}
-use Rattle.refusals.specs.Refusals.{is_none}
+use Rattle.std.specs.Prelude.{None, is_none}
 use Rattle.sections.specs.Sections.{functions_of, patterns_of}
 use Rattle.answered.specs.Answered.{answers_of, answered_refusal, pair_refusal}
 use Rattle.answered.proofs.Complete.{complete_of}

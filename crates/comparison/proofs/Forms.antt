@@ -5,8 +5,7 @@ use mathlib.Core.List.{List, [], ◌++◌, append-nil}
 use native.Mathlib.Omega.{arith}
 use lib.ListN.{length, take, drop, length-append, length-drop, take-append-drop}
 use lib.Seq.{take_all}
-use Rattle.refusals.specs.declared.Refusal.TheVariants.{None}
-use Rattle.refusals.specs.Refusals.{is_none}
+use Rattle.std.specs.Prelude.{None, is_none}
 use Rattle.words.specs.Numbers.{number_at_of}
 use Rattle.words.proofs.Reading.{length-numbers_at}
 use Rattle.sections.specs.Sections.{section, section_at, functions_of, patterns_of, past_patterns}

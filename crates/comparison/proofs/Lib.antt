@@ -3,6 +3,7 @@ pub mod Places
 pub mod Rows
 pub mod Lines
 pub mod There
+pub mod Walking
 pub mod Pairs
 pub mod Exchange
 pub mod Forms

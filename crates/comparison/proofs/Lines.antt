@@ -1,5 +1,5 @@
 -- The lines of the first places: places that are the same add none, a place that differs adds its own.
-use Prim.Native.Nat.{ℕ, zero, suc, ◌+◌, ◌-◌, ◌*◌, ◌≤◌, ◌<◌}
+use Prim.Native.Nat.{ℕ, zero, suc, ◌+◌, ◌*◌, ◌≤◌, ◌<◌}
 use mathlib.Core.Path.{◌≡◌, refl, sym, ap, ◌∙◌}
 use mathlib.Core.Bool.{Bool, true, false, cond, not}
 use mathlib.Core.List.{List, [], ◌∷◌, ◌++◌, append_assoc, append-nil}
@@ -97,45 +97,33 @@ module _ (qs : List Ask) (xs ys : List ℕ) (e : length xs ≡ length qs) (f : l
       let there : next_differing xs ys (suc k) ≡ suc k + m = sym (ap (next_differing xs ys) s) ∙ sym on ∙ n ∙ i in
       ap (λ (j : ℕ). differing (take j P)) i ∙ skipped m (suc k) there (omega arith) ∙ same-adds-none k (omega arith) q
 
-  -- with no place that differs from k on, all lines are those before k
-  pub to_the_end : (short : Bool) (k : ℕ) → next_differing xs ys k ≡ length qs → k ≤ length qs → (short ≡ true → k ≡ 0)
+  -- past the last place all lines are those before it
+  pub shown_at_end : (short : Bool) (k : ℕ) → length qs ≤ k → (short ≡ true → differing (take k P) ≡ [])
       → shown short (differing P) ≡ lines_of (differing (take k P))
-  to_the_end short k n h first = by_mode short first
+  shown_at_end short k h first = by_mode short first
     where
-      all : differing P ≡ differing (take k P)
-      all =
-          let i : k + (length qs - k) ≡ length qs = omega arith in
-          let whole : take (length qs) P ≡ P = take_all (length qs) P (omega (arith, length-places qs xs ys e f)) in
-          ap differing (sym whole) ∙ ap (λ (j : ℕ). differing (take j P)) (sym i) ∙ skipped (length qs - k) k (omega arith) (omega arith)
+      all : differing (take k P) ≡ differing P
+      all = ap differing (take_all k P (omega (arith, length-places qs xs ys e f)))
 
-      by_mode : (short : Bool) → (short ≡ true → k ≡ 0) → shown short (differing P) ≡ lines_of (differing (take k P))
-      by_mode true first =
-          let none : differing P ≡ [] = all ∙ ap (λ (j : ℕ). differing (take j P)) (first refl) in
-          ap (λ (ds : List Place). lines_of (take 1 ds)) none ∙ sym (ap (λ (ds : List Place). lines_of ds) (sym all ∙ none))
-      by_mode false first = ap lines_of all
+      by_mode : (short : Bool) → (short ≡ true → differing (take k P) ≡ []) → shown short (differing P) ≡ lines_of (differing (take k P))
+      by_mode true first = ap (λ (ds : List Place). lines_of (take 1 ds)) (sym all ∙ first refl) ∙ sym (ap (λ (ds : List Place). lines_of ds) (first refl))
+      by_mode false first = ap lines_of (sym all)
 
-  -- a place further on differs, and no place before it from k on
-  module _ (k n : ℕ) (next : next_differing xs ys k ≡ n) (from : k ≤ n) (h : n < length qs) (d : get_or xs n 0 ≡ get_or ys n 0 → ⊥) where
-    found : differing (take (suc n) P) ≡ differing (take k P) ++ (get_or P n nowhere ∷ [])
-    found =
-        let i : k + (n - k) ≡ n = omega arith in
-        let same : differing (take n P) ≡ differing (take k P) = ap (λ (j : ℕ). differing (take j P)) (sym i) ∙ skipped (n - k) k (omega arith) (omega arith) in
-        differing-adds n h d ∙ ap (λ (ds : List Place). ds ++ (get_or P n nowhere ∷ [])) same
-
+  -- a place that differs has its line behind those before it, and is shown alone where it is the first
+  module _ (n : ℕ) (h : n < length qs) (d : get_or xs n 0 ≡ get_or ys n 0 → ⊥) where
     abbrev line : List ℕ
     line = let p = get_or P n nowhere in line_of p.function p.pattern p.first p.second
 
-    pub one-line-more : lines_of (differing (take (n + 1) P)) ≡ lines_of (differing (take k P)) ++ line
+    pub one-line-more : lines_of (differing (take (n + 1) P)) ≡ lines_of (differing (take n P)) ++ line
     one-line-more =
         let s : n + 1 ≡ suc n = omega arith in
-        ap (λ (j : ℕ). lines_of (differing (take j P))) s ∙ ap lines_of found
-        ∙ lines_append (differing (take k P)) (get_or P n nowhere ∷ []) ∙ ap (λ (l : List ℕ). lines_of (differing (take k P)) ++ l) (append-nil line)
+        ap (λ (j : ℕ). lines_of (differing (take j P))) s ∙ ap lines_of (differing-adds n h d)
+        ∙ lines_append (differing (take n P)) (get_or P n nowhere ∷ []) ∙ ap (λ (l : List ℕ). lines_of (differing (take n P)) ++ l) (append-nil line)
 
-    pub first_alone : k ≡ 0 → shown true (differing P) ≡ lines_of (differing (take k P)) ++ line
-    first_alone z =
-        let none : differing (take k P) ≡ [] = ap (λ (j : ℕ). differing (take j P)) z in
+    pub first_alone : differing (take n P) ≡ [] → shown true (differing P) ≡ lines_of (differing (take n P)) ++ line
+    first_alone none =
         let rest = differing (drop (suc n) P) in
         let all : differing P ≡ get_or P n nowhere ∷ rest =
         ap differing (sym (take-append-drop (suc n) P)) ∙ differing-append (take (suc n) P) (drop (suc n) P)
-        ∙ ap (λ (ds : List Place). ds ++ rest) (found ∙ ap (λ (ds : List Place). ds ++ (get_or P n nowhere ∷ [])) none) in
+        ∙ ap (λ (ds : List Place). ds ++ rest) (differing-adds n h d ∙ ap (λ (ds : List Place). ds ++ (get_or P n nowhere ∷ [])) none) in
         ap (λ (ds : List Place). lines_of (take 1 ds)) all ∙ append-nil line ∙ sym (ap (λ (ds : List Place). lines_of ds ++ line) none)

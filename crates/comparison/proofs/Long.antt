@@ -10,8 +10,7 @@ use borrow.Author.Tests.{ltb-true, ltb-false, eqb-true, eqb-false, le-ltb}
 use lib.ListN.{length, take}
 use lib.Seq.{length-take-le, take_all}
 use lib.Dec.{ltb, eqb}
-use Rattle.refusals.specs.declared.Refusal.TheVariants.{None}
-use Rattle.refusals.specs.Refusals.{is_none}
+use Rattle.std.specs.Prelude.{None, is_none}
 use Rattle.words.specs.Numbers.{number_at_of}
 use Rattle.sections.specs.Sections.{past_section, functions_of, patterns_of, past_patterns}
 use Rattle.sections.specs.Order.{most_functions, most_patterns, sections_refusal}

@@ -1,100 +1,125 @@
-// The places of two answered listings that ask the same, which has been found of them: functions outside, patterns inside.
-ghost use Rattle.std.specs.Prelude.{◌≡◌, ◌+◌, ◌*◌, ◌≤◌, ◌<◌, length};
+// Two answered listings that ask the same, and the walk over their places: functions outside, patterns inside.
+ghost use Rattle.std.specs.Prelude.{◌≡◌, ◌+◌, ◌*◌, ◌≤◌, ◌<◌, length, MatchResult};
 ghost use Rattle.std.proofs.lemmas.List.Edits.{sets};
+ghost use Rattle.answered.specs.Answered.{pair_of};
 ghost use Rattle.line.specs.Line.{room_for};
 ghost use Rattle.comparison.specs.Differences.{differing, next_differing};
 ghost use Rattle.comparison.specs.Comparison.{shown, most_lines_of};
 ghost use Rattle.comparison.specs.Walk.{answers_at, places_at, line_at};
 
+use refusals::Refusal;
+use sections::Sections;
 use words::number_at;
 
-// The least place at or after `from` that differs, or the number of answers.
-pub fn next_difference(
-    first: &[u8],
-    second: &[u8],
+// Two answered listings that ask the same, and how many functions and patterns they have.
+#[derive(Clone, Copy)]
+pub struct Pair<'a> {
+    first: &'a [u8],
+    second: &'a [u8],
     functions: usize,
     patterns: usize,
-    from: usize,
-) -> usize
-    requires { (functions ≤ 10) × (patterns ≤ 1024) }
-    ensures { result ≡ next_differing (answers_at first.now functions patterns) (answers_at second.now functions patterns) from }
-{
-    let count = functions * patterns;
-    if count <= from {
-        return count;
+    ghost few_functions: { functions ≤ 10 },
+    ghost few_patterns: { patterns ≤ 1024 },
+}
+
+impl<'a> Pair<'a> {
+    // The two, or the first refusal of them.
+    #[tactic(auto, using(crate::proofs::Pairs::pairs))]
+    pub fn read(first: &'a [u8], second: &'a [u8]) -> Result<Pair<'a>, Refusal>
+        ensures { MatchResult result (λ p. (p.first.now ≡ first.now) × (p.second.now ≡ second.now) × (Ok (record { functions = p.functions; patterns = p.patterns }) ≡ pair_of first.now second.now)) (λ e. Err e ≡ pair_of first.now second.now) }
+    {
+        let Sections {
+            functions,
+            patterns,
+        } = answered::read_pair(first, second)?;
+        Ok(Pair {
+            first,
+            second,
+            functions,
+            patterns,
+        })
     }
-    let answers = 6 + 2 * functions + 2 * patterns;
-    let mut place = from;
-    let mut row = from / patterns;
-    let mut column = from % patterns;
-    'rows: while row < functions {
-        while column < patterns {
-            let at = answers + 2 * place;
-            if number_at(first, at) != number_at(second, at) {
-                break 'rows;
+
+    // How many answers each has.
+    pub fn count(&self) -> usize
+        ensures { result ≡ self.now.functions * self.now.patterns }
+    {
+        self.functions * self.patterns
+    }
+
+    // The least place at or after `from` that differs, or the number of answers.
+    #[tactic(auto, using(crate::proofs::Walking::walking))]
+    pub fn next_difference(&self, from: usize) -> usize
+        ensures { result ≡ next_differing (answers_at self.now.first.now self.now.functions self.now.patterns) (answers_at self.now.second.now self.now.functions self.now.patterns) from }
+    {
+        let Pair {
+            first,
+            second,
+            functions,
+            patterns,
+        } = *self;
+        let count = functions * patterns;
+        if count <= from {
+            return count;
+        }
+        let answers = 6 + 2 * functions + 2 * patterns;
+        let mut start = from % patterns;
+        'rows: {
+            for row in from / patterns..functions {
+                for column in start..patterns {
+                    let place = row * patterns + column;
+                    let at = answers + 2 * place;
+                    if number_at(first, at) != number_at(second, at) {
+                        break 'rows place;
+                    }
+                }
+                start = 0;
             }
-            place += 1;
-            column += 1;
+            count
         }
-        column = 0;
-        row += 1;
     }
-    place
-}
 
-// Writes the lines of the places that differ, or of the first alone, and answers how many bytes they have.
-pub fn write_lines(
-    first: &[u8],
-    second: &[u8],
-    functions: usize,
-    patterns: usize,
-    short: bool,
-    output: &mut [u8],
-) -> usize
-    requires { (functions ≤ 10) × (patterns ≤ 1024) × (room_for * most_lines_of short (functions * patterns) ≤ length output.old) }
-    ensures value { result ≡ length (shown short (differing (places_at first.now second.now functions patterns))) }
-    ensures output_after { output.new ≡ sets output.old 0 (shown short (differing (places_at first.now second.now functions patterns))) }
-{
-    let count = functions * patterns;
-    let mut at: usize = 0;
-    let mut place: usize = 0;
-    while place < count {
-        let next = next_difference(first, second, functions, patterns, place);
-        if next == count {
-            return at;
+    // Writes the lines of the places that differ, or of the first alone, and answers how many bytes they have.
+    pub fn write_lines(&self, short: bool, output: &mut [u8]) -> usize
+        requires { room_for * most_lines_of short (self.now.functions * self.now.patterns) ≤ length output.old }
+        ensures value { result ≡ length (shown short (differing (places_at self.now.first.now self.now.second.now self.now.functions self.now.patterns))) }
+        ensures output_after { output.new ≡ sets output.old 0 (shown short (differing (places_at self.now.first.now self.now.second.now self.now.functions self.now.patterns))) }
+    {
+        let count = self.count();
+        let mut at = 0;
+        let mut place = self.next_difference(0);
+        while place < count {
+            at += self.write_line(place, output, at);
+            if short {
+                return at;
+            }
+            place = self.next_difference(place + 1);
         }
-        at += write_line(first, second, functions, patterns, next, output, at);
-        if short {
-            return at;
-        }
-        place = next + 1;
+        at
     }
-    at
-}
 
-// Writes the line of a place from `at` on, and answers how many bytes it has.
-fn write_line(
-    first: &[u8],
-    second: &[u8],
-    functions: usize,
-    patterns: usize,
-    place: usize,
-    output: &mut [u8],
-    at: usize,
-) -> usize
-    requires { (functions ≤ 10) × (patterns ≤ 1024) × (place < functions * patterns) × (at + room_for ≤ length output.old) }
-    ensures value { result ≡ length (line_at first.now second.now functions patterns place) }
-    ensures output_after { output.new ≡ sets output.old at (line_at first.now second.now functions patterns place) }
-{
-    let function = number_at(first, 2 + 2 * (place / patterns));
-    let pattern = number_at(first, 4 + 2 * functions + 2 * (place % patterns));
-    let answer = 6 + 2 * functions + 2 * patterns + 2 * place;
-    line::put_line(
-        output,
-        at,
-        function,
-        pattern,
-        number_at(first, answer),
-        number_at(second, answer),
-    )
+    // Writes the line of a place from `at` on, and answers how many bytes it has.
+    fn write_line(&self, place: usize, output: &mut [u8], at: usize) -> usize
+        requires { (place < self.now.functions * self.now.patterns) × (at + room_for ≤ length output.old) }
+        ensures value { result ≡ length (line_at self.now.first.now self.now.second.now self.now.functions self.now.patterns place) }
+        ensures output_after { output.new ≡ sets output.old at (line_at self.now.first.now self.now.second.now self.now.functions self.now.patterns place) }
+    {
+        let Pair {
+            first,
+            second,
+            functions,
+            patterns,
+        } = *self;
+        let function = number_at(first, 2 + 2 * (place / patterns));
+        let pattern = number_at(first, 4 + 2 * functions + 2 * (place % patterns));
+        let answer = 6 + 2 * functions + 2 * patterns + 2 * place;
+        line::put_line(
+            output,
+            at,
+            function,
+            pattern,
+            number_at(first, answer),
+            number_at(second, answer),
+        )
+    }
 }

@@ -63,15 +63,15 @@ module _ (s : Pieces) (full : length s.bytes ≡ longest) (none : handed_in_of s
   refused-now : (r : Option Refusal) → so_far_of all ≡ r → is_none r ≡ false → ◌≡◌ {A = Pieced} (record { state = keeping [] r; refusal = r }) (piece_of s p)
   refused-now r h n = sym (outcome ∙ met_piece all r h n)
 
-  -- there is room for p
-  module _ (h : length p ≤ room) (r : Option Refusal) (found : r ≡ so_far_of (take (s.count + length p) next)) where
+  -- there is room for p, and r was found of the first m bytes, as many as have come
+  module _ (h : length p ≤ room) (m : ℕ) (q : m ≡ s.count + length p) (r : Option Refusal) (found : r ≡ so_far_of (take m next)) where
     next-first : take (s.count + length p) next ≡ all
     next-first =
         ap (take (s.count + length p)) (over ∙ fits (bytes_so_far s) p room h)
         ∙ take_at all (replicate (room - length p) 0) (s.count + length p) all-size
 
     all-met : so_far_of all ≡ r
-    all-met = sym (found ∙ ap so_far_of next-first)
+    all-met = sym (found ∙ ap (λ (k : ℕ). so_far_of (take k next)) q ∙ ap so_far_of next-first)
 
     pub refused : is_none r ≡ false → ◌≡◌ {A = Pieced} (record { state = keeping [] r; refusal = r }) (piece_of s p)
     refused n = refused-now r all-met n
@@ -79,8 +79,8 @@ module _ (s : Pieces) (full : length s.bytes ≡ longest) (none : handed_in_of s
     next-keeps : ◌≡◌ {A = Pieces} (record { bytes = next; count = s.count + length p; refusal = r }) (keeping all r)
     unfolding keeping
     next-keeps =
-        let m : room - length p ≡ longest - length all = omega (arith, all-size) in
-        let b : next ≡ all ++ replicate (longest - length all) 0 = over ∙ fits (bytes_so_far s) p room h ∙ ap (λ (k : ℕ). all ++ replicate k 0) m in
+        let same : room - length p ≡ longest - length all = omega (arith, all-size) in
+        let b : next ≡ all ++ replicate (longest - length all) 0 = over ∙ fits (bytes_so_far s) p room h ∙ ap (λ (k : ℕ). all ++ replicate k 0) same in
         rw (b, all-size)
 
     pub kept : is_none r ≡ true

@@ -3,6 +3,7 @@ use Rattle.std.proofs.Common.{◌≡◌, ℕ, zero, suc, ◌+◌, ◌-◌, ◌%�
 use Prim.Native.Nat.{Ordering}
 use native.Mathlib.Decide.{dec_le}
 use borrow.Author.Tests.{lt-leb, eqb-false}
+use Rattle.std.proofs.lemmas.Bool.{and_parts}
 use Rattle.posit.specs.Rounding.{Cut, Known, nought, plus, minus, Reached, Enough, Rounded, Rounds, divides, largest}
 use Rattle.posit.specs.Answer.{passes, reaches, descend, answer}
 use Rattle.posit.proofs.Complement.{opposite_twice}
@@ -27,10 +28,10 @@ descends f (suc k) u i o =
 passed : (o : Ordering) (u : ℕ) → passes o u ≡ true → Reached o u
 passed Ordering.lt u e = tt
 passed Ordering.eq u e = eqb-true (u % 2) 0 e
-passed Ordering.gt u e = let z : ◌≡◌ {A = ℕ} 0 1 = cc in omega arith
+passed Ordering.gt u e = cc
 
 failed : (o : Ordering) (u : ℕ) → passes o (u + 1) ≡ false → Enough o u
-failed Ordering.lt u e = let z : ◌≡◌ {A = ℕ} 0 1 = cc in omega arith
+failed Ordering.lt u e = cc
 failed Ordering.eq u e = let k = eqb-false ((u + 1) % 2) 0 e in omega arith
 failed Ordering.gt u e = tt
 
@@ -50,23 +51,12 @@ module _ (es n : ℕ) (few : 3 ≤ n) (c : Cut) where
   edge : Edge (reaches es n c) found
   edge = descends (reaches es n c) (n - 1) 0 (rw (le-leb 0 1 (omega arith))) past
 
-  true_not : (b : Bool) → b ≡ true → b ≡ false → ⊥
-  true_not b p q = let z : ◌≡◌ {A = ℕ} 0 1 = cc in omega arith
-
   some : 1 ≤ found
   some = go (dec_le 1 found)
     where
       go : Dec (1 ≤ found) → 1 ≤ found
       go (yes h) = h
-      go (no h) = absurd (true_not (reaches es n c (found + 1)) (rw (le-leb (found + 1) 1 (omega arith))) edge.outside)
-
-  left_of : (a b : Bool) → (a && b) ≡ true → a ≡ true
-  left_of true b e = refl
-  left_of false b e = e
-
-  right_of : (a b : Bool) → (a && b) ≡ true → b ≡ true
-  right_of true b e = e
-  right_of false b e = let z : ◌≡◌ {A = ℕ} 0 1 = cc in absurd (omega arith)
+      go (no h) = let e : reaches es n c (found + 1) ≡ true = rw (le-leb (found + 1) 1 (omega arith)) in cc (edge.outside)
 
   -- past 1 the test is the two that are left
   tested : (u : ℕ) → 1 < u → reaches es n c u ≡ (leb u (largest n) && passes (divides es n c (u - 1)) u)
@@ -74,10 +64,8 @@ module _ (es n : ℕ) (few : 3 ≤ n) (c : Cut) where
 
   reached : 1 < found → Reached (divides es n c (found - 1)) found × (found ≤ largest n)
   reached l =
-      let e = sym (tested found l) ∙ edge.inside in (
-        passed (divides es n c (found - 1)) found (right_of (leb found (largest n)) (passes (divides es n c (found - 1)) found) e),
-        leb-true found (largest n) (left_of (leb found (largest n)) (passes (divides es n c (found - 1)) found) e),
-      )
+      let both = and_parts (leb found (largest n)) (passes (divides es n c (found - 1)) found) (sym (tested found l) ∙ edge.inside) in
+      (passed (divides es n c (found - 1)) found both.1, leb-true found (largest n) both.0)
 
   enough : found < largest n → Enough (divides es n c found) found
   enough l =

@@ -58,7 +58,8 @@ pub data NoMore : Known → Known → Type 0 where
   both_minus : {c c' : Cut} → AtMost c' c → NoMore (minus c) (minus c')
 
 module _ (es n : ℕ) (few : 3 ≤ n) where
-  half : 2 ^ n ≡ 2 ^ (n - 1) + 2 ^ (n - 1)
+  -- half of the patterns
+  pub half : 2 ^ n ≡ 2 ^ (n - 1) + 2 ^ (n - 1)
   half = let d : 2 ^ n ≡ 2 ^ suc (n - 1) = ap (λ (x : ℕ). 2 ^ x) (omega arith) in let e = pow-suc 2 (n - 1) in omega arith
 
   -- an answer is a pattern, and never NaR

@@ -1,10 +1,10 @@
 -- A posit's own number rounds to its pattern, On.
-use Rattle.std.proofs.Common.{◌≡◌, ℕ, zero, suc, ◌+◌, ◌-◌, ◌*◌, ◌^◌, ◌<◌, ◌≤◌, ℤ, pos, neg_ℤ, sym, refl, ap, ◌∙◌, subst, zero-le, lt_of_le_of_lt, pow-suc, zero-mul, mul-one, arith, pow_pos}
+use Rattle.std.proofs.Common.{◌≡◌, ℕ, ◌+◌, ◌-◌, ◌*◌, ◌^◌, ◌<◌, ◌≤◌, ℤ, pos, neg_ℤ, sym, refl, ap, subst, zero-le, lt_of_le_of_lt, lt_of_mul-lt-mul_right, zero-mul, mul-one, arith, pow_pos}
 use Prim.Native.Nat.{Ordering}
 use mathlib.Core.Path.{subst⁻¹}
 use native.Mathlib.Decide.{dec_lt}
 use lib.Ieee.{up, down}
-use Rattle.posit.specs.Number.{magnitude, opposite, unit, nar, real, number}
+use Rattle.posit.specs.Number.{magnitude, opposite, unit, real, number}
 use Rattle.posit.specs.Rounding.{Cut, ratio, plus, Rounded, Rounds, dyadic, over, largest}
 use Rattle.posit.specs.Sides.{Told, Own}
 use Rattle.posit.specs.declared.side.Side.TheVariants.{On}
@@ -15,14 +15,8 @@ use Rattle.posit.proofs.Dyadic.{dyadic_plus, dyadic_minus, up_minus, down_minus}
 use Rattle.posit.proofs.Growth.{larger}
 use Rattle.posit.proofs.Unique.{doubled}
 use Rattle.posit.proofs.Widths.{followed}
+use Rattle.posit.proofs.Laws.{half}
 use Rattle.posit.proofs.Sides.{ratio_scales, dyadic_steady, untells}
-
-positive : (m k : ℕ) → 0 < m * k → 0 < m
-positive zero k h = absurd (let z = zero-mul k in omega arith)
-positive (suc m) k h = omega arith
-
-nar_is_no_real : (q : ℤ) → nar ≡ real q → ⊥
-nar_is_no_real q e = let z : ◌≡◌ {A = ℕ} 0 1 = cc in omega arith
 
 module _ (es n u : ℕ) (few : 3 ≤ n) (l : 1 ≤ u) (h : u ≤ largest n) where
   abbrev U : ℕ
@@ -47,9 +41,11 @@ module _ (es n u : ℕ) (few : 3 ≤ n) (l : 1 ≤ u) (h : u ≤ largest n) wher
 
   pub magnitude_some : 0 < magnitude es n u
   magnitude_some =
-      positive (magnitude es n u) (2 ^ (2 ^ es)) (lt_of_le_of_lt zero-le
+      lt_of_mul-lt-mul_right (2 ^ (2 ^ es))
+      (rw zero-mul
+      (lt_of_le_of_lt zero-le
       (subst (λ (x : ℕ). magnitude es (n + 1) (2 * u - 1) < x) (followed es n u few l h)
-      (let d = doubled n few in larger es (n + 1) (2 * u - 1) (2 * u) (omega arith) (omega arith) (omega arith) (omega arith))))
+      (let d = doubled n few in larger es (n + 1) (2 * u - 1) (2 * u) (omega arith) (omega arith) (omega arith) (omega arith)))))
 
   told_dyadic : Told es n (ratio (magnitude es n u * up (neg_ℤ (pos U))) (down (neg_ℤ (pos U)))) u On
   told_dyadic = subst (λ (c : Cut). Told es n c u On) (λ i. ratio (magnitude es n u * sym (up_minus U) i) (sym (down_minus U) i)) own_told
@@ -62,31 +58,30 @@ module _ (es n u : ℕ) (few : 3 ≤ n) (l : 1 ≤ u) (h : u ≤ largest n) wher
       rw (dyadic_minus (magnitude es n u) (neg_ℤ (pos U)) magnitude_some)
       (subst⁻¹ (λ (v : ℕ). Told es n (ratio (magnitude es n u * up (neg_ℤ (pos U))) (down (neg_ℤ (pos U)))) v On) e told_dyadic)
 
-real_same : (q r : ℤ) → real q ≡ real r → q ≡ r
-real_same q r e = cc
-
 -- the number in a pattern is that posit's own
 pub number_own : (es n p : ℕ) → 3 ≤ n → p < 2 ^ n → (q : ℤ) → number es n p ≡ real q → Own es n (over q (unit es n)) p
 number_own es n p few top q e = go (dec_lt 0 p) (dec_lt p (2 ^ (n - 1))) (dec_lt (2 ^ (n - 1)) p)
   where
-    half : 2 ^ n ≡ 2 ^ (n - 1) + 2 ^ (n - 1)
-    half = let d : 2 ^ n ≡ 2 ^ suc (n - 1) = ap (λ (x : ℕ). 2 ^ x) (omega arith) in let f = pow-suc 2 (n - 1) in omega arith
-
     go : Dec (0 < p) → Dec (p < 2 ^ (n - 1)) → Dec (2 ^ (n - 1) < p) → Own es n (over q (unit es n)) p
     go (no z) b d =
         let s : p ≡ 0 = omega arith in
-        subst (λ (z : ℤ). Own es n (over z (unit es n)) p) (real_same (pos 0) q (sym (number-zero es n) ∙ ap (number es n) (sym s) ∙ e)) (s, refl)
+        let m = number-zero es n in
+        let same : pos 0 ≡ q = cc in
+        subst (λ (z : ℤ). Own es n (over z (unit es n)) p) same (s, refl)
     go (yes z) (yes b) d =
-        subst (λ (z : ℤ). Own es n (over z (unit es n)) p)
-        (real_same (pos (magnitude es n p)) q (sym (number_plus es n p z b) ∙ e)) (own_plus es n p few z (omega arith))
+        let m = number_plus es n p z b in
+        let same : pos (magnitude es n p) ≡ q = cc in
+        subst (λ (z : ℤ). Own es n (over z (unit es n)) p) same (own_plus es n p few z (omega arith))
     go (yes z) (no b) (yes d) =
         let o = opposite_is n p z in
-        let f = half in
-        subst (λ (z : ℤ). Own es n (over z (unit es n)) p) (real_same (neg_ℤ (pos (magnitude es n (opposite n p)))) q (sym (number_minus es n p d) ∙ e))
-        (own_minus es n (opposite n p) few (omega arith) (omega arith) p refl)
+        let f = half es n few in
+        let m = number_minus es n p d in
+        let same : neg_ℤ (pos (magnitude es n (opposite n p))) ≡ q = cc in
+        subst (λ (z : ℤ). Own es n (over z (unit es n)) p) same (own_minus es n (opposite n p) few (omega arith) (omega arith) p refl)
     go (yes z) (no b) (no d) =
         let s : p ≡ 2 ^ (n - 1) = omega arith in
-        absurd (nar_is_no_real q (sym (number_nar es n) ∙ ap (number es n) (sym s) ∙ e))
+        let m = number_nar es n in
+        cc
 
 -- so it rounds to it
 pub own : (es n p : ℕ) → 3 ≤ n → p < 2 ^ n → (q : ℤ) → number es n p ≡ real q → Rounds es n (over q (unit es n)) p

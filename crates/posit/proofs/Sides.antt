@@ -39,15 +39,6 @@ mirrors_sided es x a r = (mirrors es 16 (lit≤ tt) x a.pattern r.0, ap mirrored
         ap (λ (u : ℕ). mirrored (lies (stands es 16 c u))) (sym (opposite_twice 16 a.pattern l (omega arith)))
     side (minus c) m = mirrored_twice (lies (stands es 16 c (opposite 16 a.pattern)))
 
-lt_not_gt : Ordering.lt ≡ Ordering.gt → ⊥
-lt_not_gt e = let z : ◌≡◌ {A = ℕ} 0 1 = cc in omega arith
-
-eq_not_gt : Ordering.eq ≡ Ordering.gt → ⊥
-eq_not_gt e = let z : ◌≡◌ {A = ℕ} 0 1 = cc in omega arith
-
-eq_not_lt : Ordering.eq ≡ Ordering.lt → ⊥
-eq_not_lt e = let z : ◌≡◌ {A = ℕ} 0 1 = cc in omega arith
-
 -- A cut that tells of one number the same however it is written: d / 2 ^ k is d * 2 ^ j / 2 ^ (k + j). A real number's cut does.
 abbrev pub Scales : Cut → Type 0
 Scales c = (d k j : ℕ) → c (d * 2 ^ j) (k + j) ≡ c d k
@@ -95,20 +86,20 @@ module _ (es n : ℕ) (few : 3 ≤ n) (c : Cut) (w : OneWay c) (sc : Scales c) w
     where
       by : (s : Side) → Leaves es n c u s → RoundsSided es n (plus c) (record { pattern = u; side = s })
       by Below l = (
-        record { least = t.least; most = t.most; reached = no-smaller u t.least t.most (λ g. lt_not_gt (sym l.0 ∙ g)); enough = l.1 },
+        record { least = t.least; most = t.most; reached = no-smaller u t.least t.most (λ g. cc (l.0)); enough = l.1 },
         ap lies (sym l.0),
       )
       by On l = (
         record {
           least = t.least;
           most = t.most;
-          reached = no-smaller u t.least t.most (λ g. eq_not_gt (sym l ∙ g));
-          enough = no_larger u t.least t.most (λ g. eq_not_lt (sym l ∙ g));
+          reached = no-smaller u t.least t.most (λ g. cc);
+          enough = no_larger u t.least t.most (λ g. cc);
         },
         ap lies (sym l),
       )
       by Above l = (
-        record { least = t.least; most = t.most; reached = l.1; enough = no_larger u t.least t.most (λ g. lt_not_gt (sym g ∙ l.0)) },
+        record { least = t.least; most = t.most; reached = l.1; enough = no_larger u t.least t.most (λ g. cc (l.0)) },
         ap lies (sym l.0),
       )
 

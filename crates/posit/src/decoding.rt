@@ -30,11 +30,7 @@ fn run_length(w: u64) -> u32
     ensures counted { result ≡ run (bit 63 w) 15 (w / 2 ^ 49) }
     ensures bounds { (1 ≤ result) × (result ≤ (if nat_le (2 ^ 63) w then 15 else 14)) }
 {
-    let zeros = if w < 0x8000_0000_0000_0000 {
-        w
-    } else {
-        !w
-    };
+    let zeros = if w < 0x8000_0000_0000_0000 { w } else { !w };
     1 + (2 * zeros + 1).leading_zeros()
 }
 

@@ -21,6 +21,7 @@ pub struct Sections {
 }
 
 // The two sections, or the first refusal in them. Bytes after them are not looked at.
+#[tactic(auto, using(crate::proofs::Reading::reads))]
 pub fn read_sections(bytes: &[u8]) -> Result<Sections, Refusal>
     ensures { result ≡ sections_of bytes.now }
 {

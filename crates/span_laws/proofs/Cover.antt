@@ -5,6 +5,7 @@ use mathlib.Core.Bool.{false}
 use native.Mathlib.Omega.{arith}
 use native.Mathlib.Decide.{dec_lt}
 use lib.Dec.{T}
+use Rattle.std.specs.Prelude.{Some}
 use lib.IntN.{pos, negsuc}
 use lib.Ieee.{Float, nan, inf, fin, binary64, fits, mul, of_int, neg}
 use lib.Ieee.Scale.{finite}
@@ -20,12 +21,11 @@ use Rattle.real.proofs.OneAnswer.{one_pattern}
 use Rattle.real.proofs.Signs.{holds_plus, holds_minus}
 use Rattle.spans.specs.Spans.{SpanOf, lower_place, upper_place}
 use Rattle.spans.specs.declared.Span.{Span}
-use Rattle.spans.specs.declared.SpanAnswer.TheVariants.{Edges}
 use Rattle.spans.proofs.Places.{lower_posit, upper_posit}
 use Rattle.span_laws.specs.LiesIn.{LiesIn}
 use Rattle.span_laws.proofs.Exactly.{exactly}
 
-pub apart : (p q : ℕ) → p < 2 ^ 16 → q < 2 ^ 16 → (s t : Span) → SpanOf p (Edges s) → SpanOf q (Edges t)
+pub apart : (p q : ℕ) → p < 2 ^ 16 → q < 2 ^ 16 → (s t : Span) → SpanOf p (Some s) → SpanOf q (Some t)
     → (x : Float) → LiesIn s x → LiesIn t x → p ≡ q
 apart p q hp hq s t v w x l k = one_pattern x p q ((exactly p hp s v x).1 l) ((exactly q hq t w x).1 k)
 
@@ -59,7 +59,7 @@ held v top not_nar = go (dec_lt 0 v) (dec_lt v (2 ^ 16))
 
 pub record Spanned (p : ℕ) : Type 0 where
   pub span : Span
-  pub is : SpanOf p (Edges span)
+  pub is : SpanOf p (Some span)
 
 pub spanned : (p : ℕ) → p < 2 ^ 16 → (p ≡ 0x8000 → ⊥) → Spanned p
 spanned p top not_nar =

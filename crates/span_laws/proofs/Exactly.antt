@@ -8,6 +8,7 @@ use native.Mathlib.Omega.{arith}
 use native.Mathlib.Nat.{zero-mul, zero-lt-suc, mul-pos}
 use native.Mathlib.Decide.{dec_lt}
 use lib.IntN.{ℤ}
+use Rattle.std.specs.Prelude.{Some}
 use lib.Pow.{pow_pos}
 use lib.Ieee.{Float, nan, inf, fin, up, down, neg}
 use lib.Ieee.Fits.{up_pos}
@@ -21,7 +22,6 @@ use Rattle.spans.specs.Spans.{SpanOf}
 use Rattle.spans.specs.declared.edges.Edge.{Edge}
 use Rattle.spans.specs.declared.edges.Edge.TheVariants.{Included}
 use Rattle.spans.specs.declared.Span.{Span}
-use Rattle.spans.specs.declared.SpanAnswer.TheVariants.{Edges}
 use Rattle.span_laws.specs.LiesIn.{Before, LiesIn}
 use Rattle.span_laws.proofs.Order.{Sized, turned}
 use Rattle.span_laws.proofs.Readings.{scaled, reads}
@@ -45,7 +45,7 @@ zero_only b m e = go b m (zero-mul (down e)) (ap (λ (x : ℕ). x * 2 ^ 30) (zer
     go true (suc m) d z =
         (λ r. absurd ((never_zero 1 16 (ratio (suc m * up e) (down e))).1 r), λ h. absurd (let l = h.0 in let k = some m in omega arith))
 
-at_nought : (s : Span) → SpanOf 0 (Edges s) → (b : Bool) (m : ℕ) (e : ℤ) → FromF64 (fin b m e) 0 ↔ LiesIn s (fin b m e)
+at_nought : (s : Span) → SpanOf 0 (Some s) → (b : Bool) (m : ℕ) (e : ℤ) → FromF64 (fin b m e) 0 ↔ LiesIn s (fin b m e)
 at_nought s v b m e =
     Iff.trans (zero_only b m e)
     (Iff.and
@@ -71,7 +71,7 @@ back_turns : (κ : Edge) (a : ℕ) (b : Bool) (x : ℕ) → Sized κ (not b) x f
 back_turns κ a true x = (turned κ false x false a, turned κ true a true x)
 back_turns κ a false x = (turned κ true x false a, turned κ true a false x)
 
-module _ (p : ℕ) (top : p < 2 ^ 16) (s : Span) (v : SpanOf p (Edges s)) where
+module _ (p : ℕ) (top : p < 2 ^ 16) (s : Span) (v : SpanOf p (Some s)) where
   above_zero : 0 < p → p < 2 ^ 15 → (b : Bool) (m : ℕ) (e : ℤ) → FromF64 (fin b m e) p ↔ LiesIn s (fin b m e)
   above_zero l h b m e =
       let f = from-plus p s.lower s.start l h v.1 in
@@ -99,6 +99,6 @@ module _ (p : ℕ) (top : p < 2 ^ 16) (s : Span) (v : SpanOf p (Edges s)) where
       go : Dec (0 < p) → Dec (p < 2 ^ 15) → FromF64 (fin b m e) p ↔ LiesIn s (fin b m e)
       go (no z) h =
           let q : p ≡ 0 = omega arith in
-          subst⁻¹ (λ (k : ℕ). FromF64 (fin b m e) k ↔ LiesIn s (fin b m e)) q (at_nought s (subst (λ (k : ℕ). SpanOf k (Edges s)) q v) b m e)
+          subst⁻¹ (λ (k : ℕ). FromF64 (fin b m e) k ↔ LiesIn s (fin b m e)) q (at_nought s (subst (λ (k : ℕ). SpanOf k (Some s)) q v) b m e)
       go (yes l) (yes h) = above_zero l h b m e
       go (yes l) (no h) = below-zero (omega (arith, v.0)) b m e

@@ -1,8 +1,9 @@
 // The angle, in half-turns, whose cosine is x: row 10 of document 01.
-ghost use Rattle.std.specs.Prelude.{◌≡◌, ◌*◌, ◌^◌, ◌≤◌, ◌<◌};
+ghost use Rattle.std.specs.Prelude.{◌≡◌, ◌-◌, ◌*◌, ◌^◌, ◌≤◌, ◌<◌, nat_lt, if◌then◌else◌};
 ghost use Rattle.posit.specs.Number.{magnitude, size};
 ghost use Rattle.rows.specs.Rows.{Meets, MeetsSided};
 ghost use Rattle.arc.specs.AcosPi.{poly, arc, row};
+ghost use Rattle.arc.specs.Root.{root};
 
 use crate::kernel::{Angle, isqrt};
 use posit::Sided;
@@ -34,20 +35,27 @@ fn angle(p: u16) -> u64
 {
     let negative = 0x8000 < p;
     let size = posit::signed(negative, p);
-    let x = posit::units(size);
     let by_root = 0x2fff < size;
-    let f = if by_root {
-        isqrt((0x1000_0000 - x) << 27)
-    } else {
-        x
-    };
-    let k = acos_poly(f).units;
+    let k = acos_poly(argument(size)).units;
     let turned = if by_root { 2 * k } else { k };
     if by_root == negative {
         turned
     } else {
         0x4000_0000 - turned
     }
+}
+
+// What the polynomial takes: within 1/2 the magnitude itself, from there on a root that is as small.
+fn argument(size: u16) -> u64
+    requires { (0 < size) × (size ≤ 0x4000) }
+    ensures value { let m = magnitude 1 16 size in result ≡ (if nat_lt 0x2fff size then root ((2 ^ 28 - m) * 2 ^ 27) else m) }
+    ensures upper_bound { result ≤ 2 ^ 27 }
+{
+    let x = posit::units(size);
+    if size < 0x3000 {
+        return x;
+    }
+    isqrt((0x1000_0000 - x) << 27)
 }
 
 #[tactic(auto, unfolding(crate::specs::AcosPi::poly))]

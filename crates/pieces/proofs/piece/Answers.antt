@@ -1,4 +1,4 @@
--- The state that keeps the bytes so far and the next ones.
+-- What is found of the bytes so far and the next ones.
 use Rattle.std.proofs.Common.{arith}
 use Rattle.pieces.proofs.Joined.{kept}
 use Rattle.pieces.proofs.piece.Goals as goal
