@@ -12,7 +12,6 @@ use Rattle.std.proofs.lemmas.List.{take-map}
 use Rattle.p16e1.specs.Functions.{known, answer_of, function_number, function_numbered}
 use Rattle.p16e1.specs.declared.functions.Function.{Function}
 use Rattle.p16e1.proofs.ByNumber.{numbered_is}
-use Rattle.std.proofs.Math.Nat.{add-sub_cancel_left}
 use Rattle.batch.specs.Batch.{refusal_of, answers, nars_in, batched_of, output_of, next_after, nars_of}
 use Rattle.std.specs.Prelude.{Some, None, Ok, Err}
 use Rattle.refusals.specs.declared.Refusal.{Refusal}
@@ -43,17 +42,17 @@ module _ (f : ℕ) (input output : List ℕ) (start limit : ℕ) where
       × (output_of f input output start limit ≡ output)
   refused_does_nothing why e = (simp e, simp e, simp e, simp e (sym (paste-zero output start (answers f input start))))
 
-  -- where g is the function: n places are answered, and that part of the output holds their answers
+  -- where g is the function: n places are answered, and that part of the output, m long, holds their answers
   pub accepted_does : (g : Function) → function_numbered f ≡ Ok g → length input ≤ length output → start ≤ length input
-      → (n nars : ℕ) (part : List ℕ) → n ≡ min limit (length input - start)
-      → nars ≡ nars_in (map (answer_of (function_number g)) (take (start + n - start) (drop start input)))
-      → part ≡ map (answer_of (function_number g)) (take (start + n - start) (drop start input))
+      → (n m nars : ℕ) (part : List ℕ) → n ≡ min limit (length input - start) → m ≡ n
+      → nars ≡ nars_in (map (answer_of (function_number g)) (take m (drop start input)))
+      → part ≡ map (answer_of (function_number g)) (take m (drop start input))
       → (Ok (record { next = start + n; nars = nars }) ≡ batched_of f input (length output) start limit)
-      × (put_mid start (start + n - start) output part ≡ output_of f input output start limit)
-  accepted_does g numbered room within n nars part least counted written =
+      × (put_mid start m output part ≡ output_of f input output start limit)
+  accepted_does g numbered room within n m nars part least long counted written =
       let k = numbered_is f g numbered in
       let none = not_refused f (length input) (length output) start k.0 room within in
-      let m : min (start + limit) (length input) - start ≡ n = omega arith in
-      let there : map (answer_of (function_number g)) (take (start + n - start) (drop start input)) ≡ take n (answers f input start) =
-      simp (k.1, add-sub_cancel_left, take-map) in
-      (simp (none, m, counted, there), simp (none, m, written ∙ there, add-sub_cancel_left, append_assoc, drop-drop))
+      let l : min (start + limit) (length input) - start ≡ n = omega arith in
+      let there : map (answer_of (function_number g)) (take m (drop start input)) ≡ take n (answers f input start) =
+      simp (k.1, long, take-map) in
+      (simp (none, l, counted, there), simp (none, l, long, written ∙ there, append_assoc, drop-drop))

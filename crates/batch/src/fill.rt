@@ -33,8 +33,8 @@ fn fill_by(function: Function, input: &[u16], output: &mut [u16]) -> usize
     ensures output_after { output.new ≡ map (answer_of (function_number function)) input.now }
 {
     let mut nars = 0;
-    for (i, p) in input.iter().enumerate() {
-        let a = function.answer(*p);
+    for (i, &p) in input.iter().enumerate() {
+        let a = function.answer(p);
         output[i] = a;
         nars += usize::from(a == 0x8000);
     }

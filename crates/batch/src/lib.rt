@@ -37,7 +37,7 @@ pub fn batch(
         return Err(Refusal::Start);
     }
     let n = limit.min(input.len() - start);
-    let next = start + n;
-    let nars = fill::fill(function, &input[start..next], &mut output[start..next]);
-    Ok(Batched { next, nars })
+    let end = start + n;
+    let nars = fill::fill(function, &input[start..end], &mut output[start..end]);
+    Ok(Batched { next: end, nars })
 }

@@ -6,8 +6,7 @@
 // made the files in data/ and, by a model that shares nothing with the program, stdout.
 #![tactic(auto)]
 
-ghost use Rattle.std.specs.Prelude.{◌≡◌, length};
-
+use blocks::Then;
 use std::env::{Env, FillError};
 use std::fs::Files;
 use std::process::ExitCode;
@@ -37,34 +36,26 @@ fn is_short(rt: &impl Env) -> bool {
     if rt.arg(3, &mut word).is_err() {
         return false;
     }
-    word[0] == 115 && word[1] == 104 && word[2] == 111 && word[3] == 114 && word[4] == 116
+    word == *b"short"
 }
 
 fn compare_files(rt: &(impl Env + Files + Print + Eprint), short: bool) -> ExitCode {
     let mut first = [0u8; 22555];
     let one = blocks::read_file(rt, 1, &mut first);
-    if one.failed {
+    if one.then == Then::Failed {
         return ExitCode::FAILURE;
     }
-    let n = one.count;
     let mut second = [0u8; 22555];
     let two = blocks::read_file(rt, 2, &mut second);
-    if two.failed {
+    if two.then == Then::Failed {
         return ExitCode::FAILURE;
     }
-    let m = two.count;
-    let mut output = lines();
-    let written = comparison::compare(&first[..n], &second[..m], short, &mut output);
+    // 31 bytes for each line of as many as two listings can have, 10,240
+    let mut output = blocks::room::<317440>();
+    let written = comparison::compare(one.bytes, two.bytes, short, &mut output);
     if blocks::write_block(rt, &output[..written]) {
         ExitCode::SUCCESS
     } else {
         ExitCode::FAILURE
     }
-}
-
-// Room for as many lines as two listings can have: 31 bytes for each of 10,240.
-fn lines() -> [u8; 317440]
-    ensures { 317440 ≡ length result }
-{
-    [0; 317440]
 }

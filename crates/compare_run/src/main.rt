@@ -8,28 +8,25 @@ use std::io;
 
 fn main(rt: HostRuntime) -> io::Result<()> {
     let mut input = blocks::input_block();
-    let block = blocks::read_block(&rt, &mut input);
-    let n = block.count;
-    try_all(&rt, &input[..n])
+    try_all(&rt, blocks::read_block(&rt, &mut input).bytes)
 }
 
 fn try_all(rt: &(impl Print + Eprint), cases: &[u8]) -> io::Result<()> {
-    let mut at: usize = 0;
-    while cases.len() - at >= 7 {
-        let short = cases[at] == 1;
-        let from = words::number_at(cases, at + 1);
-        let first = words::number_at(cases, at + 3) as usize;
-        let second = words::number_at(cases, at + 5) as usize;
-        let start = at + 7;
-        if cases.len() - start < first + second {
+    let mut rest = cases;
+    while let Some((head, after)) = rest.split_first_chunk::<7>() {
+        let short = head[0] == 1;
+        let from = words::number_at(head, 1);
+        let first = usize::from(words::number_at(head, 3));
+        let second = usize::from(words::number_at(head, 5));
+        if after.len() < first + second {
             return Ok(());
         }
-        let middle = start + first;
-        let end = middle + second;
-        if !try_one(rt, &cases[start..middle], &cases[middle..end], from, short)? {
+        let (pair, left) = after.split_at(first + second);
+        let (first, second) = pair.split_at(first);
+        if !try_one(rt, first, second, usize::from(from), short)? {
             return Ok(());
         }
-        at = end;
+        rest = left;
     }
     Ok(())
 }
@@ -39,13 +36,12 @@ fn try_one(
     rt: &(impl Print + Eprint),
     first: &[u8],
     second: &[u8],
-    from: u16,
+    from: usize,
     short: bool,
 ) -> io::Result<bool> {
-    let found = comparison::difference(first, second, from as usize);
-    let refusal = found.refusal;
-    let number = refusals::number(refusal);
-    let place = found.place;
+    let found = comparison::difference(first, second, from);
+    let number = refusals::number(found.err());
+    let place = found.unwrap_or(0);
     println!(rt; "{number} {place}")?;
     let mut output = [0u8; 65536];
     let n = comparison::compare(first, second, short, &mut output);

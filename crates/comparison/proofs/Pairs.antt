@@ -5,7 +5,7 @@ use mathlib.Core.Bool.{Bool, false}
 use mathlib.Core.List.{List, [], ◌++◌}
 use Rattle.std.specs.Prelude.{Option, Some, None, is_none, Ok, Err}
 use native.Mathlib.Omega.{arith}
-use native.Mathlib.Nat.{zero-add, mul-le-mul}
+use native.Mathlib.Nat.{zero-add}
 use borrow.Author.Tests.{lt-ltb, le-ltb}
 use lib.ListN.{length, drop}
 use lib.Seq.{sets, sets-eq, length-sets}
@@ -143,9 +143,6 @@ module _ (b c : List ℕ) (short : Bool) (output : List ℕ) where
       (fitted_most (length output) (field k 10) (omega (arith, field_most k 10))) size written
 
   module _ (s : Sections) (e : Ok s ≡ pair_of b c) where
-    pub few_answers : s.functions * s.patterns ≤ 10240
-    few_answers = mul-le-mul (few_functions b c s e) (few_patterns b c s e)
-
     pub nothing_told : length output < room_for * most_lines_of short (s.functions * s.patterns) → Told 0 output
     nothing_told h = said b c short output [] 0 output (no_room b c s (read b c s e) short (length output) h) (omega arith) refl refl
 

@@ -5,7 +5,6 @@ ghost use Rattle.answered.specs.Answered.{pair_of};
 ghost use Rattle.line.specs.Line.{room_for};
 ghost use Rattle.comparison.specs.Differences.{differing, next_differing};
 ghost use Rattle.comparison.specs.Comparison.{shown, most_lines_of};
-ghost use Rattle.comparison.specs.Walk.{answers_at, places_at, line_at};
 
 use refusals::Refusal;
 use sections::Sections;
@@ -23,10 +22,12 @@ pub struct Pair<'a> {
 }
 
 impl<'a> Pair<'a> {
+    ghost use Rattle.comparison.specs.Walk.{first_answers, second_answers, places_in, line_in, Reads};
+
     // The two, or the first refusal of them.
     #[tactic(auto, using(crate::proofs::Pairs::pairs))]
     pub fn read(first: &'a [u8], second: &'a [u8]) -> Result<Pair<'a>, Refusal>
-        ensures { MatchResult result (λ p. (p.first.now ≡ first.now) × (p.second.now ≡ second.now) × (Ok (record { functions = p.functions; patterns = p.patterns }) ≡ pair_of first.now second.now)) (λ e. Err e ≡ pair_of first.now second.now) }
+        ensures { MatchResult result (Reads first.now second.now) (λ e. Err e ≡ pair_of first.now second.now) }
     {
         let Sections {
             functions,
@@ -50,7 +51,7 @@ impl<'a> Pair<'a> {
     // The least place at or after `from` that differs, or the number of answers.
     #[tactic(auto, using(crate::proofs::Walking::walking))]
     pub fn next_difference(&self, from: usize) -> usize
-        ensures { result ≡ next_differing (answers_at self.now.first.now self.now.functions self.now.patterns) (answers_at self.now.second.now self.now.functions self.now.patterns) from }
+        ensures { result ≡ next_differing (first_answers self.now) (second_answers self.now) from }
     {
         let Pair {
             first,
@@ -82,8 +83,8 @@ impl<'a> Pair<'a> {
     // Writes the lines of the places that differ, or of the first alone, and answers how many bytes they have.
     pub fn write_lines(&self, short: bool, output: &mut [u8]) -> usize
         requires { room_for * most_lines_of short (self.now.functions * self.now.patterns) ≤ length output.old }
-        ensures value { result ≡ length (shown short (differing (places_at self.now.first.now self.now.second.now self.now.functions self.now.patterns))) }
-        ensures output_after { output.new ≡ sets output.old 0 (shown short (differing (places_at self.now.first.now self.now.second.now self.now.functions self.now.patterns))) }
+        ensures value { result ≡ length (shown short (differing (places_in self.now))) }
+        ensures output_after { output.new ≡ sets output.old 0 (shown short (differing (places_in self.now))) }
     {
         let count = self.count();
         let mut at = 0;
@@ -101,8 +102,8 @@ impl<'a> Pair<'a> {
     // Writes the line of a place from `at` on, and answers how many bytes it has.
     fn write_line(&self, place: usize, output: &mut [u8], at: usize) -> usize
         requires { (place < self.now.functions * self.now.patterns) × (at + room_for ≤ length output.old) }
-        ensures value { result ≡ length (line_at self.now.first.now self.now.second.now self.now.functions self.now.patterns place) }
-        ensures output_after { output.new ≡ sets output.old at (line_at self.now.first.now self.now.second.now self.now.functions self.now.patterns place) }
+        ensures value { result ≡ length (line_in self.now place) }
+        ensures output_after { output.new ≡ sets output.old at (line_in self.now place) }
     {
         let Pair {
             first,

@@ -1,3 +1,4 @@
 pub mod Rows
 pub mod OneAnswer
 pub mod Arguments
+pub mod Products

@@ -38,9 +38,12 @@ module _ (b : List ℕ) (outputs : ℕ) where
     unfolding refusal_of
     bytes_after h = rw (sound b s, lt-ltb (past_patterns b) (length b) h)
 
-    pub output-last : length b ≤ past_patterns b → outputs < length (answered (functions_of b) (patterns_of b)) → refusal_of b outputs ≡ Some Output
+    pub output-last : length b ≤ past_patterns b → outputs < length (answered (functions_of b) (patterns_of b))
+        → refusal_of b outputs ≡ Some Output
     unfolding refusal_of
-    output-last h k = rw (sound b s, le-ltb (past_patterns b) (length b) h, lt-ltb outputs (length (answered (functions_of b) (patterns_of b))) k)
+    output-last h k =
+        let size = length (answered (functions_of b) (patterns_of b)) in
+        rw (sound b s, le-ltb (past_patterns b) (length b) h, lt-ltb outputs size k)
 
   pub accepted : Accepted b outputs → refusal_of b outputs ≡ None
   unfolding refusal_of
@@ -51,7 +54,8 @@ module _ (b : List ℕ) (outputs : ℕ) where
         le-ltb outputs (length (answered (functions_of b) (patterns_of b))) a.room,
       )
 
-parts : (r : Option Refusal) (s t : Bool) → is_none (r before refused_when s After before refused_when t Output) ≡ true → (is_none r ≡ true) × (s ≡ false) × (t ≡ false)
+parts : (r : Option Refusal) (s t : Bool) → is_none (r before refused_when s After before refused_when t Output) ≡ true
+    → (is_none r ≡ true) × (s ≡ false) × (t ≡ false)
 parts r s t e = go (is_none r) refl s t e
   where
     go : (q : Bool) → is_none r ≡ q → (s t : Bool) → is_none (cond q (refused_when s After before refused_when t Output) r) ≡ true
@@ -66,7 +70,12 @@ unfolding refusal_of
 accepted_of b outputs e =
     let size = length (answered (functions_of b) (patterns_of b)) in
     let h = parts (sections_refusal b) (ltb (past_patterns b) (length b)) (ltb outputs size) e in
-    record { sections = sound_of b h.0; nothing_after = ltb-false (past_patterns b) (length b) h.1; room = ltb-false outputs size h.2 }
+    record {
+      sections =
+          sound_of b h.0;
+      nothing_after = ltb-false (past_patterns b) (length b) h.1;
+      room = ltb-false outputs size h.2;
+    }
 
 -- the outcome of a refused call, and of one that is not
 pub refused_call : (b output : List ℕ) (r : Refusal) → refusal_of b (length output) ≡ Some r
@@ -80,7 +89,8 @@ pub accepted_call : (b output : List ℕ) → Accepted b (length output)
 unfolding writes
 accepted_call b output a = (rw (accepted b (length output) a), rw (accepted b (length output) a))
 
-pub accepted_result : (b output : List ℕ) (n : ℕ) → Accepted b (length output) → length (answered (functions_of b) (patterns_of b)) ≡ n
+pub accepted_result : (b output : List ℕ) (n : ℕ) → Accepted b (length output)
+    → length (answered (functions_of b) (patterns_of b)) ≡ n
     → Ok n ≡ listed_of b (length output)
 accepted_result b output n a e = rw (← e) (sym (accepted_call b output a).0)
 

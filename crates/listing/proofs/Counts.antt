@@ -13,10 +13,12 @@ pub length-listing : (fs ps : List ℕ) → length (listing fs ps) ≡ 4 + 2 * l
 unfolding listing
 length-listing fs ps = length-append (section fs) (section ps) ∙ omega (arith, length-section fs, length-section ps)
 
-pub length-answered : (fs ps : List ℕ) → length (answered fs ps) ≡ 4 + 2 * length fs + 2 * length ps + 2 + 2 * (length fs * length ps)
+pub length-answered : (fs ps : List ℕ)
+    → length (answered fs ps) ≡ 4 + 2 * length fs + 2 * length ps + 2 + 2 * (length fs * length ps)
 unfolding answered
 length-answered fs ps =
-    length-append (listing fs ps) (section (answers fs ps)) ∙ omega (arith, length-listing fs ps, length-section (answers fs ps), length-answers fs ps)
+    length-append (listing fs ps) (section (answers fs ps))
+    ∙ omega (arith, length-listing fs ps, length-section (answers fs ps), length-answers fs ps)
 
 -- so many functions and patterns were found
 pub size_is : (b : List ℕ) (functions patterns : ℕ) → functions ≡ length (functions_of b) → patterns ≡ length (patterns_of b)

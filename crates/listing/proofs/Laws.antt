@@ -24,7 +24,8 @@ use Rattle.listing.proofs.Calls.{Accepted, accepted_of, accepted_call, is_listin
 abbrev pub Allowed : List ℕ → List ℕ → Result ℕ Refusal → List ℕ → Type 0
 Allowed b output r left = (r ≡ listed_of b (length output)) × (left ≡ output_of b output)
 
-pub one_outcome : (b output : List ℕ) (r r' : Result ℕ Refusal) (left left' : List ℕ) → Allowed b output r left → Allowed b output r' left' → (r ≡ r') × (left ≡ left')
+pub one_outcome : (b output : List ℕ) (r r' : Result ℕ Refusal) (left left' : List ℕ) → Allowed b output r left
+    → Allowed b output r' left' → (r ≡ r') × (left ≡ left')
 one_outcome b output r r' left left' h k = (h.0 ∙ sym k.0, h.1 ∙ sym k.1)
 
 -- functions and patterns that a listing may have

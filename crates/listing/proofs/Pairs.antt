@@ -15,7 +15,8 @@ number_of_pair : (b : List ℕ) (at : ℕ) → number_at_of (take 2 (drop at b))
 number_of_pair b at =
     let low : get_or (take 2 (drop at b)) 0 0 ≡ get_or b at 0 =
     get_or-take 2 (drop at b) 0 0 (omega arith) ∙ get_or-drop at b 0 0 ∙ ap (λ (k : ℕ). get_or b k 0) (add-zero at) in
-    let high : get_or (take 2 (drop at b)) 1 0 ≡ get_or b (at + 1) 0 = get_or-take 2 (drop at b) 1 0 (omega arith) ∙ get_or-drop at b 1 0 in
+    let high : get_or (take 2 (drop at b)) 1 0 ≡ get_or b (at + 1) 0 =
+    get_or-take 2 (drop at b) 1 0 (omega arith) ∙ get_or-drop at b 1 0 in
     rw (low, high)
 
 -- the first m pairs from a place on
@@ -33,5 +34,6 @@ later_pairs b (suc k) (suc n) h =
     later_pairs (drop 2 b) k n (omega arith) ∙ rw (drop-drop, e, p)
 
 -- those between two places
-pub pairs_between : (b : List ℕ) (n k m : ℕ) → k + m ≤ n → numbers_in (take m (drop k (first_chunks 2 n b))) ≡ numbers_at b (2 * k) m
+pub pairs_between : (b : List ℕ) (n k m : ℕ) → k + m ≤ n
+    → numbers_in (take m (drop k (first_chunks 2 n b))) ≡ numbers_at b (2 * k) m
 pairs_between b n k m h = rw (later_pairs b k n (omega arith)) (first_pairs b (2 * k) (n - k) m (omega arith))

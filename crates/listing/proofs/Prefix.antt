@@ -48,11 +48,13 @@ module _ (b : List ℕ) (k : ℕ) (within : k ≤ length b) where
       sym (sections_grow (take k b) (drop k b) (long_decided (take k b) (omega (arith, size)))) ∙ ap sections_refusal (take-append-drop k b)
 
   module _ (long : longest < k) where
-    refusal-by : (outputs : ℕ) (t : Bool) → is_none (sections_refusal b) ≡ t → refusal_of (take k b) outputs ≡ refusal_of b outputs
+    refusal-by : (outputs : ℕ) (t : Bool) → is_none (sections_refusal b) ≡ t
+        → refusal_of (take k b) outputs ≡ refusal_of b outputs
     refusal-by outputs true e =
         let s = sound_of b e in
         let s' = sound_of (take k b) (ap is_none (sections_same (omega arith)) ∙ e) in
-        bytes_after (take k b) outputs s' (omega (arith, size, sound_short (take k b) s')) ∙ sym (bytes_after b outputs s (omega (arith, sound_short b s)))
+        bytes_after (take k b) outputs s' (omega (arith, size, sound_short (take k b) s'))
+        ∙ sym (bytes_after b outputs s (omega (arith, sound_short b s)))
     refusal-by outputs false e =
         let r = sections_refusal b in
         sections_first (take k b) outputs r (sym (sections_same (omega arith))) e ∙ sym (sections_first b outputs r refl e)

@@ -1,5 +1,5 @@
--- What is known once the sections were read: how many functions, patterns and answers there are at most, and what the listing call
--- makes of the bytes.
+-- What is known once the sections were read: how many functions, patterns and answers there are at most, and what the listing
+-- call makes of the bytes.
 use Prim.Native.Nat.{ℕ, ◌+◌, ◌*◌, ◌≤◌, ◌<◌}
 use mathlib.Core.Path.{◌≡◌, refl, sym, ap, ◌∙◌}
 use mathlib.Core.Bool.{true}
@@ -23,7 +23,8 @@ use Rattle.listing.proofs.Counts.{size_is}
 use Rattle.listing.proofs.Calls.{Accepted, sections_first, bytes_after, output-last, accepted, accepted_of, refused_call, accepted_result, writes-answered}
 
 pub refused_first : (b : List ℕ) (outputs : ℕ) (e : Refusal) → Err e ≡ sections_of b → Err e ≡ counted b (refusal_of b outputs)
-refused_first b outputs e h = refused_counts b e (sections_first b outputs (Some e) (sym (refused_of b (sections_refusal b) h)) refl)
+refused_first b outputs e h =
+    refused_counts b e (sections_first b outputs (Some e) (sym (refused_of b (sections_refusal b) h)) refl)
 
 module _ (b : List ℕ) (s : Sections) (e : Ok s ≡ sections_of b) where
   pub few_functions : s.functions ≤ 10
@@ -38,14 +39,19 @@ module _ (b : List ℕ) (s : Sections) (e : Ok s ≡ sections_of b) where
   size : length (answered (functions_of b) (patterns_of b)) ≡ 4 + 2 * s.functions + 2 * s.patterns + 2 + 2 * (s.functions * s.patterns)
   size = size_is b s.functions s.patterns (read b s e).counts.functions (read b s e).counts.patterns
 
-  pub after_refused : (outputs : ℕ) → 4 + 2 * s.functions + 2 * s.patterns < length b → Err After ≡ counted b (refusal_of b outputs)
+  pub after_refused : (outputs : ℕ) → 4 + 2 * s.functions + 2 * s.patterns < length b
+      → Err After ≡ counted b (refusal_of b outputs)
   after_refused outputs h = refused_counts b After (bytes_after b outputs (read b s e).sound (omega (arith, (read b s e).past)))
 
   module _ (outputs : ℕ) (h : length b ≤ 4 + 2 * s.functions + 2 * s.patterns) where
-    pub output_refused : outputs < 4 + 2 * s.functions + 2 * s.patterns + 2 + 2 * (s.functions * s.patterns) → Err Output ≡ counted b (refusal_of b outputs)
-    output_refused k = refused_counts b Output (output-last b outputs (read b s e).sound (omega (arith, (read b s e).past)) (omega (arith, size)))
+    pub output_refused : outputs < 4 + 2 * s.functions + 2 * s.patterns + 2 + 2 * (s.functions * s.patterns)
+        → Err Output ≡ counted b (refusal_of b outputs)
+    output_refused k =
+        let r = read b s e in
+        refused_counts b Output (output-last b outputs r.sound (omega (arith, r.past)) (omega (arith, size)))
 
-    pub listing_found : 4 + 2 * s.functions + 2 * s.patterns + 2 + 2 * (s.functions * s.patterns) ≤ outputs → Ok s ≡ counted b (refusal_of b outputs)
+    pub listing_found : 4 + 2 * s.functions + 2 * s.patterns + 2 + 2 * (s.functions * s.patterns) ≤ outputs
+        → Ok s ≡ counted b (refusal_of b outputs)
     listing_found k =
         let r = read b s e in
         let a = accepted b outputs (record { sections = r.sound; nothing_after = omega (arith, r.past); room = omega (arith, size) }) in

@@ -26,7 +26,8 @@ answers-snoc (g ∷ fs) f ps = rw (answers-snoc fs f ps, append_assoc)
 pub length-answers : (fs ps : List ℕ) → length (answers fs ps) ≡ length fs * length ps
 length-answers [] ps = omega arith
 length-answers (f ∷ fs) ps =
-    length-append (map (answer_of f) ps) (answers fs ps) ∙ omega (arith, length-map ps (answer_of f), length-answers fs ps, suc-mul (length fs) (length ps))
+    length-append (map (answer_of f) ps) (answers fs ps)
+    ∙ omega (arith, length-map ps (answer_of f), length-answers fs ps, suc-mul (length fs) (length ps))
 
 pub length-numbers_in : (ps : List (List ℕ)) → length (numbers_in ps) ≡ length ps
 length-numbers_in ps = length-map ps (λ p. number_at_of p 0)
@@ -37,7 +38,8 @@ length-first ps i h = length-numbers_in (take i ps) ∙ length-take-le i ps h
 
 -- one answer more of a row, with the pattern p
 pub row_next : (l : List ℕ) (f : ℕ) (ps : List (List ℕ)) (i : ℕ) → i < length ps
-    → sets (sets l 0 (bytes_of_all (map (answer_of f) (numbers_in (take i ps))))) (2 * i) (bytes_of (answer_of f (number_at_of (get_or ps i []) 0)))
+    → sets (sets l 0 (bytes_of_all (map (answer_of f) (numbers_in (take i ps))))) (2 * i)
+    (bytes_of (answer_of f (number_at_of (get_or ps i []) 0)))
     ≡ sets l 0 (bytes_of_all (map (answer_of f) (numbers_in (take (i + 1) ps))))
 row_next l f ps i h =
     let row = map (answer_of f) (numbers_in (take i ps)) in
@@ -52,7 +54,8 @@ pub answers_next : (l : List ℕ) (fs : List (List ℕ)) (ps : List ℕ) (i : �
     ≡ sets l 0 (bytes_of_all (answers (numbers_in (take (i + 1) fs)) ps))
 answers_next l fs ps i h =
     let rows = answers (numbers_in (take i fs)) ps in
-    let n : length rows ≡ i * length ps = length-answers (numbers_in (take i fs)) ps ∙ ap (λ (k : ℕ). k * length ps) (length-first fs i (omega arith)) in
+    let n : length rows ≡ i * length ps =
+    length-answers (numbers_in (take i fs)) ps ∙ ap (λ (k : ℕ). k * length ps) (length-first fs i (omega arith)) in
     let e : 0 + length (bytes_of_all rows) ≡ 2 * (i * length ps) = omega (arith, length-bytes_of_all rows) in
     rw (map_more (λ p. number_at_of p 0) fs i [] h, answers-snoc, bytes_of_all-append, sets_append, e)
 
@@ -64,7 +67,8 @@ pub row_within : (i functions patterns : ℕ) → i < functions → i * patterns
 row_within i functions patterns h = omega (arith, suc-mul i patterns, mul-le-mul_right patterns h)
 
 -- bytes, then a section, each written after the last
-sets_section : (l b ws : List ℕ) → sets (sets (sets l 0 b) (length b) (bytes_of (length ws))) (length b + 2) (bytes_of_all ws) ≡ sets l 0 (b ++ section ws)
+sets_section : (l b ws : List ℕ)
+    → sets (sets (sets l 0 b) (length b) (bytes_of (length ws))) (length b + 2) (bytes_of_all ws) ≡ sets l 0 (b ++ section ws)
 unfolding section
 sets_section l b ws =
     sym (sets_append l 0 b (bytes_of (length ws) ++ bytes_of_all ws)
@@ -83,5 +87,7 @@ sets_part l at k vs h fits =
     let size : length part ≡ k = length-take-le k (drop at l) (omega (arith, length-drop at l)) in
     let front : sets part 0 vs ≡ vs ++ drop (length vs) part = sets_front part vs (omega arith) in
     let rest : drop (length vs) part ++ drop k (drop at l) ≡ drop (at + length vs) l =
-    sym (drop-append-le (length vs) part (drop k (drop at l)) (omega arith)) ∙ ap (drop (length vs)) (take-append-drop k (drop at l)) ∙ drop-drop (length vs) at l in
+    sym (drop-append-le (length vs) part (drop k (drop at l)) (omega arith))
+    ∙ ap (drop (length vs)) (take-append-drop k (drop at l))
+    ∙ drop-drop (length vs) at l in
     rw (front, append_assoc, rest) (sym (sets-eq vs l at (omega arith) ∙ append_assoc (take at l) vs (drop (at + length vs) l)))

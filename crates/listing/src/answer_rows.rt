@@ -44,8 +44,8 @@ fn write_answers(functions: &[[u8; 2]], patterns: &[[u8; 2]], output: &mut [u8])
     }
 }
 
-// Writes one function's answers to the patterns. The function is chosen here, once for all of them: each arm hands on one that the
-// compiler knows, so that it makes a loop with that one function in it.
+// Writes one function's answers to the patterns. The function is chosen here, once for all of them: each arm hands on one that
+// the compiler knows, so that it makes a loop with that one function in it.
 fn write_row(function: Function, patterns: &[[u8; 2]], row: &mut [u8])
     requires room { 2 * length patterns.now ≤ length row.old }
     ensures { row.new ≡ sets row.old 0 (bytes_of_all (map (answer_of (function_number function)) (numbers_in patterns.now))) }
@@ -64,8 +64,8 @@ fn write_row(function: Function, patterns: &[[u8; 2]], row: &mut [u8])
     }
 }
 
-// The same, with the function chosen anew for each pattern. It writes bytes itself: whether there is room for them, which `put_number`
-// asks each time, is known of all of them.
+// The same, with the function chosen anew for each pattern. It writes bytes itself: whether there is room for them, which
+// `put_number` asks each time, is known of all of them.
 fn write_row_by(function: Function, patterns: &[[u8; 2]], row: &mut [u8])
     requires room { 2 * length patterns.now ≤ length row.old }
     ensures { row.new ≡ sets row.old 0 (bytes_of_all (map (answer_of (function_number function)) (numbers_in patterns.now))) }

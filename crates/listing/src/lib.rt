@@ -31,8 +31,8 @@ pub fn read_listing(bytes: &[u8], outputs: usize) -> Result<Sections, Refusal>
     Ok(found)
 }
 
-// Reads the listing in `input`, writes the answered listing into the first bytes of `output` and answers how many bytes that is. A
-// refused call writes nothing.
+// Reads the listing in `input`, writes the answered listing into the first bytes of `output` and answers how many bytes that is.
+// A refused call writes nothing.
 #[tactic(auto, using(crate::proofs::Reading::calls))]
 pub fn answer_listing(input: &[u8], output: &mut [u8]) -> Result<usize, Refusal>
     ensures value { result ≡ listed_of input.now (length output.old) }

@@ -37,6 +37,10 @@ module _ (b : List ℕ) where
       go true e = ap (λ (s : Pieces). s.refusal) (none_after e) ∙ kept_refusal b None ∙ sym (none_is (so_far_of b) e)
       go false e = ap (λ (s : Pieces). s.refusal) (met_after e) ∙ kept_refusal [] (so_far_of b)
 
+-- an end call with this state gives what the listing call gives on these bytes
+abbrev pub EndsAs : Pieces → List ℕ → List ℕ → Type 0
+EndsAs s b output = (end_of s (length output) ≡ ended_with (listed_of b (length output))) × (end_output_of s output ≡ output_of b output)
+
 abbrev pieced : List ℕ → Pieced
 pieced b = record { state = state_after_of b; refusal = so_far_of b }
 
@@ -56,12 +60,10 @@ module _ (b : List ℕ) where
           refused_piece (state_after_of b) p (ap is_none (after_brings b) ∙ e) ∙ rw (after_brings b, state, same)
 
   -- the end
-  pub end_after : (output : List ℕ)
-      → (end_of (state_after_of b) (length output) ≡ ended_with (listed_of b (length output))) × (end_output_of (state_after_of b) output ≡ output_of b output)
+  pub end_after : (output : List ℕ) → EndsAs (state_after_of b) b output
   end_after output = go (so_far_of b) refl
     where
-      go : (r : Option Refusal) → so_far_of b ≡ r
-          → (end_of (state_after_of b) (length output) ≡ ended_with (listed_of b (length output))) × (end_output_of (state_after_of b) output ≡ output_of b output)
+      go : (r : Option Refusal) → so_far_of b ≡ r → EndsAs (state_after_of b) b output
       go None e =
           let n = ap is_none (after_brings b ∙ e) in
           let same : bytes_so_far (state_after_of b) ≡ b = ap bytes_so_far (none_after b (ap is_none e)) ∙ kept_bytes b None in (
@@ -71,7 +73,8 @@ module _ (b : List ℕ) where
       go (Some r) e =
           let n = ap is_none e in
           let q = refused_call b output r (met_whole b n (length output) ∙ e) in (
-            refused_end (state_after_of b) (length output) (ap is_none (after_brings b) ∙ n) ∙ rw (after_brings b, met_after b n, e) (ap ended_with q.0),
+            refused_end (state_after_of b) (length output) (ap is_none (after_brings b) ∙ n)
+                ∙ rw (after_brings b, met_after b n, e) (ap ended_with q.0),
             refused_output (state_after_of b) output (ap is_none (after_brings b) ∙ n) ∙ q.1,
           )
 

@@ -72,8 +72,9 @@ module _ (b : List ℕ) (size : length b ≡ 2076) (bytes : Bytes b) where
   pub stored_back : produced (state_in_of b) ≡ true → layout (state_in_of b) ≡ b
   unfolding state_in_of layout
   stored_back h =
-      let kept : number_or_zero (refusal_numbered (number_at_of b 2074)) ≡ number_at_of b 2074 = number_numbered (number_at_of b 2074) (not_forged (state_in_of b) h) in
-      let rest : bytes_of (number_at_of b 2072) ++ bytes_of (number_or_zero (refusal_numbered (number_at_of b 2074))) ≡ drop 2072 b =
+      let n = number_at_of b 2074 in
+      let kept : number_or_zero (refusal_numbered n) ≡ n = number_numbered n (not_forged (state_in_of b) h) in
+      let rest : bytes_of (number_at_of b 2072) ++ bytes_of (number_or_zero (refusal_numbered n)) ≡ drop 2072 b =
       ap (λ (k : ℕ). bytes_of (number_at_of b 2072) ++ bytes_of k) kept
       ∙ ap (λ (l : List ℕ). l ++ bytes_of (number_at_of b 2074)) (two_bytes 2072)
       ∙ ap (λ (l : List ℕ). get_or b 2072 0 ∷ get_or b 2073 0 ∷ l) (two_bytes 2074)

@@ -37,7 +37,8 @@ keeps_said s (end n) = go (is_none (handed_in_of s)) refl
     go : (t : Bool) → is_none (handed_in_of s) ≡ t → handed_in_of (end_of s n).state ≡ result_err (end_of s n).written
     go true e =
         let r = refusal_of (bytes_so_far s) n in
-        rw (taken-end s e n, refused_by) (brings (keeping [] r) (keeping-produced [] r (omega arith) (given (bytes_so_far s) n)) ∙ kept_refusal [] r)
+        let whole = keeping-produced [] r (omega arith) (given (bytes_so_far s) n) in
+        rw (taken-end s e n, refused_by) (brings (keeping [] r) whole ∙ kept_refusal [] r)
     go false e = rw (refused_end s n e, refused_by)
 
 -- a state that brings a refusal comes back unchanged, and every call says that refusal
@@ -78,11 +79,12 @@ module _ (s : Pieces) (c : Call) (n : is_none (said_by s c) ≡ false) (between 
 
   pub writes_nothing : (output : List ℕ) → (written_of (end_of then (length output)).written ≡ 0) × (end_output_of then output ≡ output)
   writes_nothing output =
-      let none = ap (λ (r : Ended). written_of r.written) (refused_end then (length output) refused_then) ∙ none_written (handed_in_of then) in
-      (none, refused_output then output refused_then)
+      let said = refused_end then (length output) refused_then in
+      (ap (λ (r : Ended). written_of r.written) said ∙ none_written (handed_in_of then), refused_output then output refused_then)
 
 -- an end that answers
-pub answered_fresh : (s : Pieces) (outputs : ℕ) → is_none (result_err (end_of s outputs).written) ≡ true → (end_of s outputs).state ≡ fresh_state
+pub answered_fresh : (s : Pieces) (outputs : ℕ)
+    → is_none (result_err (end_of s outputs).written) ≡ true → (end_of s outputs).state ≡ fresh_state
 answered_fresh s outputs a = go (is_none (handed_in_of s)) refl
   where
     go : (t : Bool) → is_none (handed_in_of s) ≡ t → (end_of s outputs).state ≡ fresh_state

@@ -92,7 +92,9 @@ stays_produced s (piece p) h = go (is_none (handed_in_of s)) refl
 stays_produced s (end n) h = go (is_none (handed_in_of s)) refl
   where
     go : (t : Bool) → is_none (handed_in_of s) ≡ t → produced (end_of s n).state ≡ true
-    go true e = rw (taken-end s e n, refused_by) (keeping-produced [] (refusal_of (bytes_so_far s) n) (omega arith) (given (bytes_so_far s) n))
+    go true e =
+        let r = refusal_of (bytes_so_far s) n in
+        rw (taken-end s e n, refused_by) (keeping-produced [] r (omega arith) (given (bytes_so_far s) n))
     go false e = rw (refused_end s n e) h
 
 pub only_produced : (cs : List Call) → produced (run fresh_state cs) ≡ true

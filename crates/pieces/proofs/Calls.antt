@@ -2,7 +2,7 @@
 use Prim.Native.Nat.{ℕ}
 use mathlib.Core.Path.{◌≡◌, refl, ◌∙◌}
 use mathlib.Core.Bool.{true, false}
-use mathlib.Core.List.{List, [], ◌++◌}
+use mathlib.Core.List.{List, ◌++◌}
 use Rattle.std.proofs.lemmas.Grind.{common_steps}
 use Rattle.std.specs.Prelude.{Option, Some, None, is_none}
 use Rattle.std.specs.Result.{result_err}
@@ -14,7 +14,7 @@ use Rattle.piece_state.specs.declared.Pieces.{Pieces}
 use Rattle.piece_state.proofs.Kept.{within}
 use Rattle.pieces.specs.declared.Pieced.{Pieced}
 use Rattle.piece_state.specs.State.{keeping, so_far_of, state_after_of, bytes_so_far, handed_in_of}
-use Rattle.pieces.specs.Calls.{piece_of, ended_with, end_of, end_output_of}
+use Rattle.pieces.specs.Calls.{met_with, piece_of, ended_with, end_of, end_output_of}
 
 -- a call that returns so was refused so
 pub refused_by : (r : Option Refusal) (n : ℕ) → result_err (unless_refused r n) ≡ r
@@ -36,7 +36,8 @@ module _ (s : Pieces) where
   refused_output output n = rw n
 
   module _ (n : is_none (handed_in_of s) ≡ true) where
-    pub taken-piece : (p : List ℕ) → piece_of s p ≡ record { state = state_after_of (bytes_so_far s ++ p); refusal = so_far_of (bytes_so_far s ++ p) }
+    pub taken-piece : (p : List ℕ)
+        → piece_of s p ≡ record { state = state_after_of (bytes_so_far s ++ p); refusal = so_far_of (bytes_so_far s ++ p) }
     unfolding piece_of
     taken-piece p = rw n
 
@@ -50,7 +51,7 @@ module _ (s : Pieces) where
 
 -- the piece call's outcome once the bytes have met a refusal, and while they have not
 pub met_piece : (b : List ℕ) (r : Option Refusal) → so_far_of b ≡ r → is_none r ≡ false
-    → ◌≡◌ {A = Pieced} (record { state = state_after_of b; refusal = so_far_of b }) (record { state = keeping [] r; refusal = r })
+    → ◌≡◌ {A = Pieced} (record { state = state_after_of b; refusal = so_far_of b }) (met_with r)
 unfolding state_after_of
 met_piece b r e n = rw (e, n)
 

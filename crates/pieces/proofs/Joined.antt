@@ -17,7 +17,7 @@ use Rattle.piece_state.specs.State.{keeping, so_far_of, after_more, state_after_
 use Rattle.piece_state.proofs.SoFar.{too_long}
 use Rattle.piece_state.proofs.Kept.{Good, brings_none, within, size, rest, fits, fills}
 use Rattle.pieces.specs.declared.Pieced.{Pieced}
-use Rattle.pieces.specs.Calls.{piece_of}
+use Rattle.pieces.specs.Calls.{met_with, piece_of}
 use Rattle.pieces.proofs.Calls.{taken-piece, met_piece, next_piece}
 
 more_refused : (r : Option Refusal) → is_none (after_more r) ≡ false
@@ -60,7 +60,7 @@ module _ (s : Pieces) (full : length s.bytes ≡ longest) (none : handed_in_of s
   outcome : piece_of s p ≡ record { state = state_after_of all; refusal = so_far_of all }
   outcome = taken-piece s (ap is_none none) p
 
-  refused-now : (r : Option Refusal) → so_far_of all ≡ r → is_none r ≡ false → ◌≡◌ {A = Pieced} (record { state = keeping [] r; refusal = r }) (piece_of s p)
+  refused-now : (r : Option Refusal) → so_far_of all ≡ r → is_none r ≡ false → met_with r ≡ piece_of s p
   refused-now r h n = sym (outcome ∙ met_piece all r h n)
 
   -- there is room for p, and r was found of the first m bytes, as many as have come
@@ -73,14 +73,15 @@ module _ (s : Pieces) (full : length s.bytes ≡ longest) (none : handed_in_of s
     all-met : so_far_of all ≡ r
     all-met = sym (found ∙ ap (λ (k : ℕ). so_far_of (take k next)) q ∙ ap so_far_of next-first)
 
-    pub refused : is_none r ≡ false → ◌≡◌ {A = Pieced} (record { state = keeping [] r; refusal = r }) (piece_of s p)
+    pub refused : is_none r ≡ false → met_with r ≡ piece_of s p
     refused n = refused-now r all-met n
 
     next-keeps : ◌≡◌ {A = Pieces} (record { bytes = next; count = s.count + length p; refusal = r }) (keeping all r)
     unfolding keeping
     next-keeps =
         let same : room - length p ≡ longest - length all = omega (arith, all-size) in
-        let b : next ≡ all ++ replicate (longest - length all) 0 = over ∙ fits (bytes_so_far s) p room h ∙ ap (λ (k : ℕ). all ++ replicate k 0) same in
+        let b : next ≡ all ++ replicate (longest - length all) 0 =
+        over ∙ fits (bytes_so_far s) p room h ∙ ap (λ (k : ℕ). all ++ replicate k 0) same in
         rw (b, all-size)
 
     pub kept : is_none r ≡ true
@@ -88,8 +89,7 @@ module _ (s : Pieces) (full : length s.bytes ≡ longest) (none : handed_in_of s
     kept n = ap (λ (x : Pieces). record { state = x; refusal = r }) next-keeps ∙ sym (outcome ∙ next_piece all r all-met n)
 
   -- there is not
-  pub refused-more : room < length p → (r : Option Refusal) → r ≡ after_more (so_far_of next)
-      → ◌≡◌ {A = Pieced} (record { state = keeping [] r; refusal = r }) (piece_of s p)
+  pub refused-more : room < length p → (r : Option Refusal) → r ≡ after_more (so_far_of next) → met_with r ≡ piece_of s p
   refused-more h r found =
       let first : next ≡ bytes_so_far s ++ take room p = over ∙ fills (bytes_so_far s) p room (omega arith) in
       let both : all ≡ next ++ drop room p =

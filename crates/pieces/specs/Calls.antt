@@ -1,7 +1,7 @@
 -- "Refusals: 12 first, a handed-in state that no calls from a fresh one produce, which is handed back as given; then as document 01, 5
 -- and 6 at the call that brings the deciding byte, 1 at the call that completes the functions, 4 and 2 only at the end call." What the
 -- two calls return and leave, for any state, any bytes and any output.
-use Rattle.std.specs.Prelude.{ℕ, List, [], ◌++◌, cond, is_none, Result}
+use Rattle.std.specs.Prelude.{ℕ, List, [], ◌++◌, cond, Option, is_none, Result}
 use Rattle.std.specs.Result.{result_err}
 use Rattle.refusals.specs.declared.Refusal.{Refusal}
 use Rattle.refusals.specs.Refusals.{unless_refused}
@@ -10,6 +10,10 @@ use Rattle.piece_state.specs.declared.Pieces.{Pieces}
 use Rattle.pieces.specs.declared.Pieced.{Pieced}
 use Rattle.pieces.specs.declared.Ended.{Ended}
 use Rattle.piece_state.specs.State.{keeping, so_far_of, state_after_of, bytes_so_far, handed_in_of}
+
+-- the outcome of a piece whose bytes meet a refusal
+abbrev pub met_with : Option Refusal → Pieced
+met_with r = record { state = keeping [] r; refusal = r }
 
 -- the bytes so far and the next ones
 unfoldable pub piece_of : Pieces → List ℕ → Pieced

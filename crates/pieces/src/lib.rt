@@ -3,7 +3,7 @@
 
 ghost use Rattle.std.specs.Prelude.{◌≡◌, [], length};
 ghost use Rattle.piece_state.specs.State.{keeping};
-ghost use Rattle.pieces.specs.Calls.{piece_of, end_of, end_output_of};
+ghost use Rattle.pieces.specs.Calls.{met_with, piece_of, end_of, end_output_of};
 
 use piece_state::{LONGEST, Pieces, empty, handed_in, so_far, too_long};
 use refusals::Refusal;
@@ -62,7 +62,7 @@ pub fn piece(state: Pieces, bytes: &[u8]) -> Pieced
 
 // What a piece call gives whose bytes meet a refusal.
 fn met(refusal: Option<Refusal>) -> Pieced
-    ensures { result ≡ record { state = keeping [] refusal; refusal = refusal } }
+    ensures { result ≡ met_with refusal }
 {
     Pieced {
         state: empty(refusal),

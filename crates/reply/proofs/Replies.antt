@@ -20,7 +20,8 @@ use Rattle.io.specs.Counts.{IsPrefixLen}
 use Rattle.io.proofs.Counting.{prefix_len_of_le}
 use Rattle.reply.specs.Reply.{reply_by, reply_of, output_of, room}
 
-pub counted : (b output : List ℕ) (n : ℕ) (l : List ℕ) → n ≡ length (reply_of b (length output)) → l ≡ output_of b output → IsPrefixLen n l
+pub counted : (b output : List ℕ) (n : ℕ) (l : List ℕ) → n ≡ length (reply_of b (length output)) → l ≡ output_of b output
+    → IsPrefixLen n l
 counted b output n l e f =
     let w = reply_of b (length output) in
     prefix_len_of_le n l (omega (arith, e, ap length f, length-append w (drop (length w) output)))
@@ -60,14 +61,16 @@ module _ (b output : List ℕ) (r : Refusal) (e : Err r ≡ listed_of b (length 
   unfolding reply_of
   refused_output = rw (same, refused) (go (ltb (length output) 4))
     where
-      go : (t : Bool) → cond t output (reply (Some r) ++ drop 4 output) ≡ cond t [] (reply (Some r)) ++ drop (length (cond t [] (reply (Some r)))) output
+      go : (t : Bool)
+          → cond t output (reply (Some r) ++ drop 4 output) ≡ cond t [] (reply (Some r)) ++ drop (length (cond t [] (reply (Some r)))) output
       go true = refl
       go false = refl
 
 pub ruleset replies = (answered_length, answered_output, refused_length, refused_output, counted)
 
 -- what a refused call would have written is not in the reply
-refused_alike : (r : Option Refusal) (w v : List ℕ) (outputs : ℕ) → is_none r ≡ false → reply_by r w outputs ≡ reply_by r v outputs
+refused_alike : (r : Option Refusal) (w v : List ℕ) (outputs : ℕ) → is_none r ≡ false
+    → reply_by r w outputs ≡ reply_by r v outputs
 refused_alike None w v outputs e = absurd (true≢false e)
 refused_alike (Some r) w v outputs e = refl
 

@@ -25,7 +25,8 @@ numbers_back p (w ∷ ws) q =
     let rest = bytes_of_all ws ++ q in
     let e : p ++ (bytes_of w ++ rest) ≡ p ++ bytes_of w ++ rest = sym (append_assoc p (bytes_of w) rest) in
     let n : length p + 2 ≡ length (p ++ bytes_of w) = sym (length-append p (bytes_of w)) in
-    let tail : numbers_at (p ++ (bytes_of w ++ rest)) (length p + 2) (length ws) ≡ ws = rw (e, n) (numbers_back (p ++ bytes_of w) ws q) in
+    let tail : numbers_at (p ++ (bytes_of w ++ rest)) (length p + 2) (length ws) ≡ ws =
+    rw (e, n) (numbers_back (p ++ bytes_of w) ws q) in
     rw (number_back p w rest, tail)
 
 -- a section, with the bytes p before it and q after it
@@ -38,7 +39,8 @@ module _ (p ws q : List ℕ) where
   unfolding section
   section_back =
       let rest = bytes_of_all ws ++ q in
-      let e : p ++ (bytes_of (length ws) ++ rest) ≡ p ++ bytes_of (length ws) ++ rest = sym (append_assoc p (bytes_of (length ws)) rest) in
+      let e : p ++ (bytes_of (length ws) ++ rest) ≡ p ++ bytes_of (length ws) ++ rest =
+      sym (append_assoc p (bytes_of (length ws)) rest) in
       let n : length p + 2 ≡ length (p ++ bytes_of (length ws)) = sym (length-append p (bytes_of (length ws))) in
       rw (number_back p (length ws) rest, e, n) (numbers_back (p ++ bytes_of (length ws)) ws q)
 
@@ -64,7 +66,8 @@ module _ (b : List ℕ) (bytes : Bytes b) where
       let s : at + 2 ≡ suc (suc at) = omega arith in
       rw (bytes_back (at + 2) n (omega arith), low, high, add-one, e, drop-cons b at 0 (omega arith), drop-cons b (suc at) 0 (omega arith), s)
 
-  pub section_bytes : (at : ℕ) → past_section b at ≤ length b → section (section_at b at) ≡ take (2 + 2 * number_at_of b at) (drop at b)
+  pub section_bytes : (at : ℕ) → past_section b at ≤ length b
+      → section (section_at b at) ≡ take (2 + 2 * number_at_of b at) (drop at b)
   unfolding section
   section_bytes at h =
       let n = number_at_of b at in

@@ -21,7 +21,8 @@ module _ (b : List ℕ) (at least most : ℕ) (room : at + 2 + 2 * most ≤ leng
   pub roomy_decided : is_cut (section_refusal_of b at least most) ≡ false
   roomy_decided = go (ltb (number_at_of b at) least) (ltb most (number_at_of b at)) refl refl
     where
-      go : (s t : Bool) → ltb (number_at_of b at) least ≡ s → ltb most (number_at_of b at) ≡ t → is_cut (section_refusal_of b at least most) ≡ false
+      go : (s t : Bool) → ltb (number_at_of b at) least ≡ s → ltb most (number_at_of b at) ≡ t
+          → is_cut (section_refusal_of b at least most) ≡ false
       go true t e f = rw (too_few b at least most (omega arith) (ltb-true (number_at_of b at) least e))
       go false true e f =
           rw (too_many b at least most (omega arith) (ltb-false (number_at_of b at) least e) (ltb-true most (number_at_of b at) f))
@@ -53,12 +54,15 @@ module _ (b p : List ℕ) where
           present = omega (arith, n, longer, w.present);
         }
 
-    cut_off : {r : Option Refusal} → section_refusal_of b at least most ≡ r → is_cut (section_refusal_of b at least most) ≡ false → is_cut r ≡ true → ⊥
+    cut_off : {r : Option Refusal} → section_refusal_of b at least most ≡ r → is_cut (section_refusal_of b at least most) ≡ false
+        → is_cut r ≡ true → ⊥
     cut_off e h k = false≢true (sym h ∙ ap is_cut e ∙ k)
 
-    pub section-grows : is_cut (section_refusal_of b at least most) ≡ false → section_refusal_of (b ++ p) at least most ≡ section_refusal_of b at least most
+    pub section-grows : is_cut (section_refusal_of b at least most) ≡ false
+        → section_refusal_of (b ++ p) at least most ≡ section_refusal_of b at least most
     section-grows h =
-        go (ltb (length b) (at + 2)) (ltb (number_at_of b at) least) (ltb most (number_at_of b at)) (ltb (length b) (past_section b at)) refl refl refl refl
+        go (ltb (length b) (at + 2)) (ltb (number_at_of b at) least) (ltb most (number_at_of b at)) (ltb (length b) (past_section b at))
+        refl refl refl refl
       where
         go : (s t u v : Bool) → ltb (length b) (at + 2) ≡ s → ltb (number_at_of b at) least ≡ t
             → ltb most (number_at_of b at) ≡ u → ltb (length b) (past_section b at) ≡ v
@@ -98,8 +102,10 @@ module _ (b p : List ℕ) where
     unfolding functions_of
     functions-grow = rw (number_grows 0 w.counted) (numbers_grow (number_at_of b 0) 2 (omega (arith, w.present)))
 
-    known_by : (k : Bool) → all_known_of (functions_of b) ≡ k → is_cut (sections_refusal b) ≡ false → sections_refusal (b ++ p) ≡ sections_refusal b
-    known_by false e h = unknown-next (b ++ p) (whole-grows 0 1 most_functions w) (ap all_known_of functions-grow ∙ e) ∙ sym (unknown-next b w e)
+    known_by : (k : Bool) → all_known_of (functions_of b) ≡ k → is_cut (sections_refusal b) ≡ false
+        → sections_refusal (b ++ p) ≡ sections_refusal b
+    known_by false e h =
+        unknown-next (b ++ p) (whole-grows 0 1 most_functions w) (ap all_known_of functions-grow ∙ e) ∙ sym (unknown-next b w e)
     known_by true e h =
         let last = patterns-last b w e in
         let same = section-grows (past_section b 0) 0 most_patterns (ap is_cut (sym last) ∙ h) in

@@ -15,11 +15,13 @@ both true t e = (refl, e)
 both false t e = absurd (false≢true e)
 
 -- asked of each of n places from the place i on
-pub all-known_from : (b : List ℕ) (at n i : ℕ) → list_all (λ k. known (number_at_of b (at + 2 * k))) (range_with_len i n) ≡ all_known_of (numbers_at b (at + 2 * i) n)
+pub all-known_from : (b : List ℕ) (at n i : ℕ)
+    → list_all (λ k. known (number_at_of b (at + 2 * k))) (range_with_len i n) ≡ all_known_of (numbers_at b (at + 2 * i) n)
 all-known_from b at zero i = refl
 all-known_from b at (suc n) i =
     let e : at + 2 * (i + 1) ≡ at + 2 * i + 2 = omega arith in
-    ap (λ (t : Bool). known (number_at_of b (at + 2 * i)) && t) (all-known_from b at n (i + 1) ∙ ap (λ (k : ℕ). all_known_of (numbers_at b k n)) e)
+    let rest = all-known_from b at n (i + 1) ∙ ap (λ (k : ℕ). all_known_of (numbers_at b k n)) e in
+    ap (λ (t : Bool). known (number_at_of b (at + 2 * i)) && t) rest
 
 pub known_in : (fs : List ℕ) (i : ℕ) → i < length fs → all_known_of fs ≡ true → known (get_or fs i 0) ≡ true
 known_in [] i h e = absurd (omega arith)

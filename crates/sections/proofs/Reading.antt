@@ -18,8 +18,11 @@ use Rattle.sections.proofs.Whole.{Whole, whole_counted}
 use Rattle.sections.proofs.Sound.{functions_first, unknown-next, patterns-last, refused_counts, found_counts}
 
 module _ (b : List ℕ) where
-  pub first_refused : (e : Refusal) → Err e ≡ unless_refused (section_refusal_of b 0 1 most_functions) (number_at_of b 0) → Err e ≡ sections_of b
-  first_refused e h = refused_counts b e (functions_first b (Some e) (sym (refused_for (section_refusal_of b 0 1 most_functions) (number_at_of b 0) h)) refl)
+  pub first_refused : (e : Refusal) → Err e ≡ unless_refused (section_refusal_of b 0 1 most_functions) (number_at_of b 0)
+      → Err e ≡ sections_of b
+  first_refused e h =
+      let first = refused_for (section_refusal_of b 0 1 most_functions) (number_at_of b 0) h in
+      refused_counts b e (functions_first b (Some e) (sym first) refl)
 
   -- so many functions were found
   module _ (n : ℕ) (f : Ok n ≡ unless_refused (section_refusal_of b 0 1 most_functions) (number_at_of b 0)) where
@@ -43,10 +46,15 @@ module _ (b : List ℕ) where
       last : sections_refusal b ≡ section_refusal_of b (2 + 2 * n) 0 most_patterns
       last = patterns-last b functions (known_is k) ∙ ap (λ (m : ℕ). section_refusal_of b (2 + 2 * m) 0 most_patterns) (sym count)
 
-      pub second_refused : (e : Refusal) → Err e ≡ unless_refused (section_refusal_of b (2 + 2 * n) 0 most_patterns) (number_at_of b (2 + 2 * n)) → Err e ≡ sections_of b
-      second_refused e h = refused_counts b e (last ∙ refused_for (section_refusal_of b (2 + 2 * n) 0 most_patterns) (number_at_of b (2 + 2 * n)) h)
+      pub second_refused : (e : Refusal)
+          → Err e ≡ unless_refused (section_refusal_of b (2 + 2 * n) 0 most_patterns) (number_at_of b (2 + 2 * n))
+          → Err e ≡ sections_of b
+      second_refused e h =
+          let second = refused_for (section_refusal_of b (2 + 2 * n) 0 most_patterns) (number_at_of b (2 + 2 * n)) h in
+          refused_counts b e (last ∙ second)
 
-      pub sections_found : (m : ℕ) → Ok m ≡ unless_refused (section_refusal_of b (2 + 2 * n) 0 most_patterns) (number_at_of b (2 + 2 * n))
+      pub sections_found : (m : ℕ)
+          → Ok m ≡ unless_refused (section_refusal_of b (2 + 2 * n) 0 most_patterns) (number_at_of b (2 + 2 * n))
           → Ok (record { functions = n; patterns = m }) ≡ sections_of b
       sections_found m p =
           let h = unrefused (section_refusal_of b (2 + 2 * n) 0 most_patterns) (number_at_of b (2 + 2 * n)) p in

@@ -24,7 +24,8 @@ pub record Sound (b : List ℕ) : Type 0 where
   pub patterns : Whole b (past_section b 0) 0 most_patterns
 
 module _ (b : List ℕ) where
-  pub functions_first : (r : Option Refusal) → r ≡ section_refusal_of b 0 1 most_functions → is_none r ≡ false → sections_refusal b ≡ r
+  pub functions_first : (r : Option Refusal) → r ≡ section_refusal_of b 0 1 most_functions → is_none r ≡ false
+      → sections_refusal b ≡ r
   unfolding sections_refusal
   functions_first r e n = rw (← e, n)
 
@@ -33,14 +34,16 @@ module _ (b : List ℕ) where
     unfolding sections_refusal
     unknown-next k = rw (whole b 0 1 most_functions w, k)
 
-    pub patterns-last : all_known_of (functions_of b) ≡ true → sections_refusal b ≡ section_refusal_of b (past_section b 0) 0 most_patterns
+    pub patterns-last : all_known_of (functions_of b) ≡ true
+        → sections_refusal b ≡ section_refusal_of b (past_section b 0) 0 most_patterns
     unfolding sections_refusal
     patterns-last k = rw (whole b 0 1 most_functions w, k)
 
   pub sound : Sound b → sections_refusal b ≡ None
   sound s = patterns-last s.functions s.all_known ∙ whole b (past_section b 0) 0 most_patterns s.patterns
 
-parts : (r s : Option Refusal) (k : Bool) → is_none (r before refused_when (not k) Function before s) ≡ true → (is_none r ≡ true) × (k ≡ true) × (is_none s ≡ true)
+parts : (r s : Option Refusal) (k : Bool) → is_none (r before refused_when (not k) Function before s) ≡ true
+    → (is_none r ≡ true) × (k ≡ true) × (is_none s ≡ true)
 parts r s k e = go (is_none r) refl k e
   where
     go : (t : Bool) → is_none r ≡ t → (k : Bool) → is_none (cond t (refused_when (not k) Function before s) r) ≡ true
@@ -52,7 +55,9 @@ parts r s k e = go (is_none r) refl k e
 pub sound_of : (b : List ℕ) → is_none (sections_refusal b) ≡ true → Sound b
 unfolding sections_refusal
 sound_of b e =
-    let h = parts (section_refusal_of b 0 1 most_functions) (section_refusal_of b (past_section b 0) 0 most_patterns) (all_known_of (functions_of b)) e in
+    let first = section_refusal_of b 0 1 most_functions in
+    let second = section_refusal_of b (past_section b 0) 0 most_patterns in
+    let h = parts first second (all_known_of (functions_of b)) e in
     record {
       functions = whole_of b 0 1 most_functions h.0;
       all_known = h.1;
@@ -63,7 +68,8 @@ sound_of b e =
 pub refused_counts : (b : List ℕ) {s : Option Refusal} (r : Refusal) → s ≡ Some r → Err r ≡ counted b s
 refused_counts b r e = rw e
 
-pub found_counts : (b : List ℕ) {s : Option Refusal} (functions patterns : ℕ) → s ≡ None → functions ≡ length (functions_of b) → patterns ≡ length (patterns_of b)
+pub found_counts : (b : List ℕ) {s : Option Refusal} (functions patterns : ℕ) → s ≡ None → functions ≡ length (functions_of b)
+    → patterns ≡ length (patterns_of b)
     → Ok (record { functions = functions; patterns = patterns }) ≡ counted b s
 found_counts b functions patterns e f p = rw (e, f, p)
 

@@ -34,13 +34,19 @@ module _ (b : List ℕ) (at least most : ℕ) where
     module _ (low : least ≤ number_at_of b at) where
       pub too_many : most < number_at_of b at → section_refusal_of b at least most ≡ Some Limits
       unfolding section_refusal_of
-      too_many h = rw (le-ltb (length b) (at + 2) counted, le-ltb (number_at_of b at) least low, lt-ltb most (number_at_of b at) h)
+      too_many h =
+          rw (le-ltb (length b) (at + 2) counted, le-ltb (number_at_of b at) least low, lt-ltb most (number_at_of b at) h)
 
       module _ (high : number_at_of b at ≤ most) where
         pub cut-numbers : length b < past_section b at → section_refusal_of b at least most ≡ Some Cut
         unfolding section_refusal_of
         cut-numbers h =
-            rw (le-ltb (length b) (at + 2) counted, le-ltb (number_at_of b at) least low, le-ltb most (number_at_of b at) high, lt-ltb (length b) (past_section b at) h)
+            rw (
+              le-ltb (length b) (at + 2) counted,
+              le-ltb (number_at_of b at) least low,
+              le-ltb most (number_at_of b at) high,
+              lt-ltb (length b) (past_section b at) h,
+            )
 
   pub whole : Whole b at least most → section_refusal_of b at least most ≡ None
   unfolding section_refusal_of
@@ -52,7 +58,8 @@ module _ (b : List ℕ) (at least most : ℕ) where
         le-ltb (length b) (past_section b at) w.present,
       )
 
-none_refuses : (s t u v : Bool) → is_none (refused_when s Cut before refused_when (t || u) Limits before refused_when v Cut) ≡ true
+none_refuses : (s t u v : Bool)
+    → is_none (refused_when s Cut before refused_when (t || u) Limits before refused_when v Cut) ≡ true
     → (s ≡ false) × (t ≡ false) × (u ≡ false) × (v ≡ false)
 none_refuses true t u v e = absurd (false≢true e)
 none_refuses false true u v e = absurd (false≢true e)
@@ -63,7 +70,8 @@ none_refuses false false false false e = (refl, refl, refl, refl)
 pub whole_of : (b : List ℕ) (at least most : ℕ) → is_none (section_refusal_of b at least most) ≡ true → Whole b at least most
 unfolding section_refusal_of
 whole_of b at least most e =
-    let h = none_refuses (ltb (length b) (at + 2)) (ltb (number_at_of b at) least) (ltb most (number_at_of b at)) (ltb (length b) (past_section b at)) e in
+    let outside = ltb most (number_at_of b at) in
+    let h = none_refuses (ltb (length b) (at + 2)) (ltb (number_at_of b at) least) outside (ltb (length b) (past_section b at)) e in
     record {
       counted = ltb-false (length b) (at + 2) h.0;
       low = ltb-false (number_at_of b at) least h.1;
@@ -72,7 +80,8 @@ whole_of b at least most e =
     }
 
 -- and its count is what the reader found
-pub whole_counted : (b : List ℕ) (at least most : ℕ) {n : ℕ} → Ok n ≡ unless_refused (section_refusal_of b at least most) (number_at_of b at)
+pub whole_counted : (b : List ℕ) (at least most : ℕ) {n : ℕ}
+    → Ok n ≡ unless_refused (section_refusal_of b at least most) (number_at_of b at)
     → Whole b at least most × (n ≡ number_at_of b at)
 whole_counted b at least most e =
     let h = unrefused (section_refusal_of b at least most) (number_at_of b at) e in

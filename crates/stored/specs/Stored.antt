@@ -23,4 +23,5 @@ abbrev pub piece_leaves : List ℕ → List ℕ → List ℕ
 piece_leaves given p = handed_back (piece_of (state_in_of given) p).state (piece_of (state_in_of given) p).refusal given
 
 abbrev pub end_leaves : List ℕ → ℕ → List ℕ
-end_leaves given outputs = handed_back (end_of (state_in_of given) outputs).state (result_err (end_of (state_in_of given) outputs).written) given
+end_leaves given outputs =
+    handed_back (end_of (state_in_of given) outputs).state (result_err (end_of (state_in_of given) outputs).written) given

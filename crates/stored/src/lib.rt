@@ -24,7 +24,6 @@ pub fn state_in(stored: &[u8; 2076]) -> Pieces
 }
 
 // Puts the state that a call hands back where the one that it took was, which stays where the call was refused for it.
-#[tactic(auto, unfolding(crate::specs::Stored::layout))]
 pub fn hand_back(state: Pieces, refusal: Option<Refusal>, stored: &mut [u8; 2076])
     ensures { stored.new ≡ handed_back state refusal stored.old }
 {

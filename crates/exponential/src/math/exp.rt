@@ -36,7 +36,7 @@ fn kernel(p: u16) -> Sided
     )
 }
 
-#[tactic(auto, unfolding(crate::specs::Exp::poly))]
+#[tactic(auto, unfolding(crate::specs::Exp::poly), using(crate::proofs::Products::exp_products))]
 fn exp_poly(f: u64) -> u64
     requires { f < 2 ^ 25 }
     ensures value { result ≡ poly f }

@@ -12,5 +12,6 @@ pub returns : goal.returns
 returns c =
     let b = c.args.bytes.now in
     let n = c.args.count in
-    all_from_yields_List (λ k. known (number_at_of b (2 + 2 * k))) _ _ _ c.all.ensures.ran (YieldsList-from_range 0 n n refl (omega arith)) (λ x r q k. search (rules, tests))
+    all_from_yields_List (λ k. known (number_at_of b (2 + 2 * k))) _ _ _ c.all.ensures.ran
+    (YieldsList-from_range 0 n n refl (omega arith)) (λ x r q k. search (rules, tests))
     ∙ all-known_from b 2 n 0

@@ -19,7 +19,8 @@ module _ (b : List ℕ) (ns : List (List ℕ)) (n functions patterns : ℕ) (e :
       let q : 1 + functions - 1 ≡ functions = omega arith in
       rw (e, q) (pairs_between b n 1 functions (omega arith))
 
-  patterns_in : length ns ≡ n → numbers_in (take (length ns - (2 + functions)) (drop (2 + functions) ns)) ≡ numbers_at b (2 + 2 * functions + 2) patterns
+  patterns_in : length ns ≡ n
+      → numbers_in (take (length ns - (2 + functions)) (drop (2 + functions) ns)) ≡ numbers_at b (2 + 2 * functions + 2) patterns
   patterns_in s =
       let q : length ns - (2 + functions) ≡ patterns = omega arith in
       let p : 2 * (2 + functions) ≡ 2 + 2 * functions + 2 = omega arith in
@@ -44,6 +45,7 @@ returns c =
     let f = functions_in b k.result.0.now _ a.functions a.patterns k.ensures.front (omega arith) in
     let p = patterns_in b k.result.0.now _ a.functions a.patterns k.ensures.front (omega arith) k.ensures.front_len in
     let size = length c.put_number.new.output - (length b + 2) in
-    let part = sets_part c.put_number.new.output (length b + 2) size (bytes_of_all (answers fs ps)) (omega arith) (omega (arith, length-bytes_of_all (answers fs ps))) in
+    let bytes = bytes_of_all (answers fs ps) in
+    let part = sets_part c.put_number.new.output (length b + 2) size bytes (omega arith) (omega (arith, length-bytes_of_all (answers fs ps))) in
     in_turn a.output.now b (answers fs ps) c.copy.new.output c.put_number.new.output _ (a.functions * a.patterns) count
     c.copy.ensures c.put_number.ensures (ap (put_mid (length b + 2) size c.put_number.new.output) c.write_answers.ensures ∙ rw (f, p) part)

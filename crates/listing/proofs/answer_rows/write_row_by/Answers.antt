@@ -12,6 +12,7 @@ loop-i-preserved c =
     let r = c.to_le_bytes.result in
     let p : c.from_le_bytes.result ≡ number_at_of (get_or a.patterns.now i []) 0 = omega (arith, c.from_le_bytes.ensures) in
     let low : get_or r 0 0 ≡ c.answer.result % 256 = ap (λ l. get_or l 0 0) c.to_le_bytes.ensures in
-    let high : get_or r 1 0 ≡ c.answer.result / 256 = ap (λ l. get_or l 1 0) c.to_le_bytes.ensures ∙ omega (arith, c.answer.type_inv) in
+    let high : get_or r 1 0 ≡ c.answer.result / 256 =
+    ap (λ l. get_or l 1 0) c.to_le_bytes.ensures ∙ omega (arith, c.answer.type_inv) in
     let s : 2 * i + 1 ≡ suc (2 * i) = add-one (2 * i) in
     cc (row_next a.row.now (function_number a.function) a.patterns.now i c.loop-i-test.true)
