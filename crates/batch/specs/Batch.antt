@@ -1,7 +1,8 @@
 -- "It evaluates the places from start up to the smaller of start + limit (as whole numbers, never wrapped) and the input's
 -- length, each answer written at its own place. It returns the next place and how many NaR it wrote in this call." What a
 -- call returns, and what it leaves in the output.
-use Rattle.std.specs.Prelude.{ℕ, ◌+◌, ◌-◌, min, List, map, cond, not, length, take, drop, ltb, count_by, ◌==◌, Option, None, Some, is_none, Result, Ok, Err}
+use Rattle.std.specs.Prelude.{ℕ, ◌+◌, ◌-◌, min, List, map, cond, not, length, take, drop, ltb, count_by, ◌==◌}
+use Rattle.std.specs.Prelude.{Option, None, Some, is_none, Result, Ok, Err}
 use Rattle.std.proofs.Math.Seq.{paste}
 use Rattle.p16e1.specs.Functions.{known, answer_of}
 use Rattle.batch.specs.declared.Batched.{Batched}

@@ -8,7 +8,8 @@ use Rattle.std.specs.Prelude.{Result, Ok, Err}
 use Rattle.posit.proofs.Exists.{answered}
 use Rattle.posit.specs.declared.side.Sided.{Sided}
 use Rattle.rows.specs.Rows.{Row, names, rounds, Meets, MeetsSided}
-use Rattle.p16e1.specs.Functions.{known, function_number, function_numbered, row_of, Answers, AnswersSided, answer_to, answer_of, sided_to, sided_answer_of}
+use Rattle.p16e1.specs.Functions.{known, function_number, function_numbered, row_of, Answers, AnswersSided}
+use Rattle.p16e1.specs.Functions.{answer_to, answer_of, sided_to, sided_answer_of}
 use Rattle.refusals.specs.declared.Refusal.{Refusal}
 use Rattle.refusals.specs.declared.Refusal.TheVariants as Why
 use Rattle.p16e1.specs.declared.functions.Function.{Function}

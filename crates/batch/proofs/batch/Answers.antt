@@ -9,12 +9,14 @@ pub returns-then-input-start-clause-value : goal.returns-then-input-start-clause
 returns-then-input-start-clause-value c =
     let a = c.args in
     let k = numbered_is a.function _ (sym c.try_from.ensures ∙ c.in_ok-function.was) in
-    sym (refused_does_nothing a.function a.input.now a.output.now a.start a.limit Start (start_beyond a.function _ _ _ k.0 (omega arith) (omega arith))).0
+    let e = start_beyond a.function _ _ _ k.0 (omega arith) (omega arith) in
+    sym (refused_does_nothing a.function a.input.now a.output.now a.start a.limit Start e).0
 
 pub returns : goal.returns
 returns c =
     let a = c.args in
+    let filled = c.fill-nars.ensures in
     let done =
-    accepted_does a.function a.input.now a.output.now a.start a.limit c.in_ok-function.function (sym c.try_from.ensures ∙ c.in_ok-function.was)
-    (omega arith) (omega arith) c.min-n.result _ _ _ (omega arith) (omega arith) c.fill-nars.ensures.value c.fill-nars.ensures.output_after in
+    accepted_does a.function a.input.now a.output.now a.start a.limit _ (sym c.try_from.ensures ∙ c.in_ok-function.was)
+    (omega arith) (omega arith) c.min-n.result _ _ _ (omega arith) (omega arith) filled.value filled.output_after in
     record { value = done.0; output_after = done.1 }

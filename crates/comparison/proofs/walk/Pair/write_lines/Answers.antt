@@ -15,8 +15,8 @@ overflow_add-at c =
 pub returns-then-short : goal.returns-then-short
 returns-then-short c =
     let w = c.write_line-at in
-    let t = shown_alone _ _ _ _ _ _ _ _ _ c.loop-place.invariant (omega arith) w.result w.ensures.value w.new.output w.ensures.output_after c.if-short.true in
-    record { value = t.0; output_after = t.1 }
+    let alone = shown_alone _ _ _ _ _ _ _ _ _ c.loop-place.invariant (omega arith) w.result w.ensures.value w.new.output w.ensures.output_after c.if-short.true in
+    record { value = alone.0; output_after = alone.1 }
 
 pub loop-place-smaller : goal.loop-place-smaller
 loop-place-smaller c =
