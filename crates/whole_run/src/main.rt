@@ -53,9 +53,9 @@ fn half(
     tally: &mut Tally,
 ) -> io::Result<()> {
     let mut buffer = [0u8; 65536];
-    let block = blocks::read_block(rt, &mut buffer);
-    for (p, bytes) in patterns.zip(block.bytes.chunks_exact(2)) {
-        let rust = u16::from_le_bytes([bytes[0], bytes[1]]);
+    let (answers, _) = blocks::read_block(rt, &mut buffer).bytes.as_chunks::<2>();
+    for (p, bytes) in patterns.zip(answers) {
+        let rust = u16::from_le_bytes(*bytes);
         let here = function.answer(p);
         if tally.counts(here != rust) {
             print::both(rt, "differs", function, p, rust, here)?;
@@ -70,10 +70,10 @@ fn half(
 // Compares the square roots of j * 2^42, for j from 0 to 4,096.
 fn roots(rt: &(impl Input + Print + Eprint)) -> io::Result<()> {
     let mut buffer = [0u8; 16388];
-    let block = blocks::read_block(rt, &mut buffer);
+    let (roots, _) = blocks::read_block(rt, &mut buffer).bytes.as_chunks::<4>();
     let mut tally = Tally::default();
-    for (j, bytes) in (0..=4096).zip(block.bytes.chunks_exact(4)) {
-        let rust = u64::from(u32::from_le_bytes([bytes[0], bytes[1], bytes[2], bytes[3]]));
+    for (j, bytes) in (0..=4096).zip(roots) {
+        let rust = u64::from(u32::from_le_bytes(*bytes));
         let here = arc::square_root(j << 42);
         if tally.counts(here != rust) {
             print::root(rt, j, rust, here)?;
