@@ -36,10 +36,7 @@ module _ (b c : List ℕ) (functions patterns : ℕ) where
   none_left from h = sym (none_beyond xs ys lengths from (omega (arith, count)) ∙ count)
 
   -- the answers at a place, as they are read
-  module _ (row column : ℕ) (r : row < functions) (k : column < patterns) where
-    abbrev place : ℕ
-    place = row * patterns + column
-
+  module _ (row column place : ℕ) (r : row < functions) (k : column < patterns) (e : place ≡ row * patterns + column) where
     abbrev at : ℕ
     at = 6 + 2 * functions + 2 * patterns + 2 * place
 
@@ -52,10 +49,8 @@ module _ (b c : List ℕ) (functions patterns : ℕ) where
     second_there : get_or ys place 0 ≡ number_at_of c at
     second_there = number_of c (6 + 2 * functions + 2 * patterns) (functions * patterns) place inside
 
-    pub place_on : number_at_of b at ≡ number_at_of c at → next_differing xs ys place ≡ next_differing xs ys (row * patterns + (column + 1))
-    place_on q =
-        let e : place + 1 ≡ row * patterns + (column + 1) = omega arith in
-        one_on xs ys lengths place (omega (arith, inside, count)) (first_there ∙ q ∙ sym second_there) ∙ ap (next_differing xs ys) e
+    pub place_on : number_at_of b at ≡ number_at_of c at → next_differing xs ys place ≡ next_differing xs ys (place + 1)
+    place_on q = one_on xs ys lengths place (omega (arith, inside, count)) (first_there ∙ q ∙ sym second_there)
 
     pub place_found : (number_at_of b at ≡ number_at_of c at → ⊥) → place ≡ next_differing xs ys place
     place_found d = sym (here xs ys lengths place (omega (arith, inside, count)) (λ q. d (sym first_there ∙ q ∙ second_there)))

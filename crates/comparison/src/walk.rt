@@ -64,20 +64,19 @@ impl<'a> Pair<'a> {
             return count;
         }
         let answers = 6 + 2 * functions + 2 * patterns;
+        let mut place = from;
         let mut start = from % patterns;
-        'rows: {
-            for row in from / patterns..functions {
-                for column in start..patterns {
-                    let place = row * patterns + column;
-                    let at = answers + 2 * place;
-                    if number_at(first, at) != number_at(second, at) {
-                        break 'rows place;
-                    }
+        'rows: for row in from / patterns..functions {
+            for column in start..patterns {
+                let at = answers + 2 * place;
+                if number_at(first, at) != number_at(second, at) {
+                    break 'rows;
                 }
-                start = 0;
+                place += 1;
             }
-            count
+            start = 0;
         }
+        place
     }
 
     // Writes the lines of the places that differ, or of the first alone, and answers how many bytes they have.
