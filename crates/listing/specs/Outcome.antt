@@ -24,11 +24,6 @@ writes b outputs = cond (is_none (refusal_of b outputs)) (answered (functions_of
 abbrev pub listed_of : List ℕ → ℕ → Result ℕ Refusal
 listed_of b outputs = unless_refused (refusal_of b outputs) (length (writes b outputs))
 
--- "0 bytes written" where it is
-abbrev pub written_of : Result ℕ Refusal → ℕ
-written_of (Ok n) = n
-written_of (Err r) = 0
-
 abbrev pub output_of : List ℕ → List ℕ → List ℕ
 output_of b output = writes b (length output) ++ drop (length (writes b (length output))) output
 

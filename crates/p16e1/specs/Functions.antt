@@ -1,5 +1,5 @@
 -- "Function numbers: 1 exp, 2 exp2, 3 ln, 4 log2, 5 sin_pi, 6 cos_pi, 7 tan_pi, 8 atan_pi, 9 asin_pi, 10 acos_pi."
-use Rattle.std.specs.Prelude.{ℕ, ◌≡◌, Bool, true, false, cond, eqb, Result, Ok, Err}
+use Rattle.std.specs.Prelude.{ℕ, ◌≡◌, Bool, true, false, cond, eqb, Result, Ok, Err, List, codes}
 use Rattle.posit.specs.Answer as Rounding
 use Rattle.posit.specs.declared.side.Sided.{Sided}
 use Rattle.rows.specs.Rows.{Row, names, rounds, Meets, MeetsSided, side_in, within}
@@ -29,6 +29,19 @@ function_number TanPi = 7
 function_number AtanPi = 8
 function_number AsinPi = 9
 function_number AcosPi = 10
+
+-- "1 exp, 2 exp2, 3 ln, 4 log2, 5 sin_pi, 6 cos_pi, 7 tan_pi, 8 atan_pi, 9 asin_pi, 10 acos_pi"
+abbrev pub name_of : Function → List ℕ
+name_of Exp = codes "exp"
+name_of Exp2 = codes "exp2"
+name_of Ln = codes "ln"
+name_of Log2 = codes "log2"
+name_of SinPi = codes "sin_pi"
+name_of CosPi = codes "cos_pi"
+name_of TanPi = codes "tan_pi"
+name_of AtanPi = codes "atan_pi"
+name_of AsinPi = codes "asin_pi"
+name_of AcosPi = codes "acos_pi"
 
 -- "1 function number outside 1 to 10"
 abbrev pub function_numbered : ℕ → Result Function Refusal

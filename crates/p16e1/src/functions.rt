@@ -1,6 +1,6 @@
 // The ten functions, and their numbers, for whoever is told by a number which one to take.
-ghost use Rattle.std.specs.Prelude.{◌≡◌, cond};
-ghost use Rattle.p16e1.specs.Functions.{known, row_of, Answers, AnswersSided, answer_of, function_number, function_numbered};
+ghost use Rattle.std.specs.Prelude.{◌≡◌, cond, Some};
+ghost use Rattle.p16e1.specs.Functions.{known, row_of, Answers, AnswersSided, answer_of, function_number, function_numbered, name_of};
 ghost use Rattle.rows.specs.Rows.{MeetsSided};
 
 use posit::Sided;
@@ -46,6 +46,8 @@ impl TryFrom<u16> for Function {
 
 // The function's name.
 impl fmt::Display for Function {
+    ghost output = { λ f. Some (name_of f) };
+
     fn fmt<W: fmt::Write>(&self, f: &mut fmt::Formatter<W>) -> fmt::Result {
         f.write_str(match self {
             Function::Exp => "exp",

@@ -7,12 +7,12 @@ use mathlib.Core.List.{List, [], ◌∷◌, ◌++◌, append-nil}
 use native.Mathlib.Omega.{arith}
 use lib.ListN.{length}
 use Rattle.std.specs.Prelude.{Option, Some, None, is_none}
-use Rattle.std.specs.Result.{result_err}
+use Rattle.std.specs.Result.{result_err, result_unwrap_or}
 use Rattle.refusals.specs.declared.Refusal.{Refusal}
 use Rattle.refusals.specs.Refusals.{unless_refused}
 use Rattle.refusals.proofs.Refusing.{none_is}
 use Rattle.listing.specs.Longest.{longest}
-use Rattle.listing.specs.Outcome.{refusal_of, written_of}
+use Rattle.listing.specs.Outcome.{refusal_of}
 use Rattle.piece_state.specs.declared.Pieces.{Pieces}
 use Rattle.pieces.specs.declared.Pieced.{Pieced}
 use Rattle.pieces.specs.declared.Ended.{Ended}
@@ -56,7 +56,7 @@ module _ (s : Pieces) (n : is_none (handed_in_of s) ≡ false) where
   still (c ∷ cs) = ap (λ (t : Pieces). run t cs) (same_state c) ∙ still cs
 
 -- a call that is refused, or has nothing to write, writes nothing
-none_written : (r : Option Refusal) → written_of (unless_refused r 0) ≡ 0
+none_written : (r : Option Refusal) → result_unwrap_or {T = ℕ} (unless_refused r 0) 0 ≡ 0
 none_written None = refl
 none_written (Some r) = refl
 
@@ -77,10 +77,10 @@ module _ (s : Pieces) (c : Call) (n : is_none (said_by s c) ≡ false) (between 
   pub repeats : (d : Call) → said_by then d ≡ said_by s c
   repeats d = same_said then refused_then d ∙ ap handed_in_of unchanged ∙ keeps_said s c
 
-  pub writes_nothing : (output : List ℕ) → (written_of (end_of then (length output)).written ≡ 0) × (end_output_of then output ≡ output)
+  pub writes_nothing : (output : List ℕ) → (result_unwrap_or (end_of then (length output)).written 0 ≡ 0) × (end_output_of then output ≡ output)
   writes_nothing output =
       let said = refused_end then (length output) refused_then in
-      (ap (λ (r : Ended). written_of r.written) said ∙ none_written (handed_in_of then), refused_output then output refused_then)
+      (ap (λ (r : Ended). result_unwrap_or r.written 0) said ∙ none_written (handed_in_of then), refused_output then output refused_then)
 
 -- an end that answers
 pub answered_fresh : (s : Pieces) (outputs : ℕ)
