@@ -27,5 +27,9 @@ pub fn isqrt(f: u64) -> u64
 pub fn square_root(f: u64) -> u64
     ensures { Root (min f (2 ^ 56 - 1)) result }
 {
-    isqrt(f.min(0x00FF_FFFF_FFFF_FFFF))
+    if f < 0x0100_0000_0000_0000 {
+        isqrt(f)
+    } else {
+        0x0FFF_FFFF
+    }
 }

@@ -1,2 +1,1 @@
-pub mod Conversions
 pub mod Words

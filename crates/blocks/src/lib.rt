@@ -4,7 +4,6 @@
 
 ghost use Rattle.std.specs.Prelude.{◌≡◌, ◌≤◌, length};
 ghost use Rattle.std.specs.Io.KnownBytes.{Consumes, IsAtEnd};
-ghost use Rattle.blocks.specs.Conversions.{TakesBlocks, CountsWithin};
 
 use std::env::{Env, FillError};
 use std::fs::Files;
@@ -169,24 +168,36 @@ pub fn write_block(rt: &(impl Print + Eprint), block: &[u8]) -> bool {
     }
 }
 
-// Converts standard input: for each block, what `convert` puts into the first bytes of `output` goes to standard output. It ends with
-// the input, or at the first read or write that fails. A proved loop has to end, and nothing says that the input does: no run uses up
-// its turns.
-pub fn convert_input<F: Fn(&[u8], &mut [u8]) -> usize>(
+// A block of input as a conversion takes it, with no more bytes than `input_block` has room for.
+#[derive(Clone, Copy)]
+pub struct Whole<'a> {
+    pub bytes: &'a [u8],
+    ghost in_block: { length bytes.now ≤ 131072 },
+}
+
+// What a block of input becomes, in room for `ROOM` bytes.
+pub trait Conversion<const ROOM: usize> {
+    // Puts what the block becomes into the first bytes of `output`, and answers how many that is.
+    fn convert(&self, block: Whole, output: &mut [u8; ROOM]) -> usize
+        ensures { result ≤ ROOM };
+}
+
+// Converts standard input: for each block, what `conversion` puts into the first bytes of `output` goes to standard output. It ends
+// with the input, or at the first read or write that fails. A proved loop has to end, and nothing says that the input does: no run
+// uses up its turns.
+pub fn convert_input<const ROOM: usize>(
     rt: &(impl Env + Input + Print + Eprint),
-    output: &mut [u8],
-    convert: F,
-) -> ExitCode
-    requires callable { TakesBlocks (length output.old) (F.pre convert) }
-    requires within { CountsWithin (F.post convert) }
-{
+    output: &mut [u8; ROOM],
+    conversion: &impl Conversion<ROOM>,
+) -> ExitCode {
     if !without_words(rt) {
         return ExitCode::FAILURE;
     }
     let mut input = input_block();
     for _ in 0..u64::MAX {
         let block = read_block(rt, &mut input);
-        let written = convert(block.bytes, output);
+        let whole = Whole { bytes: block.bytes };
+        let written = conversion.convert(whole, output);
         if !write_block(rt, &output[..written]) {
             return ExitCode::FAILURE;
         }

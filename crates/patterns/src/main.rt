@@ -8,6 +8,7 @@ ghost use Rattle.std.specs.Prelude.{◌≡◌, ◌≤◌, length, take};
 ghost use Rattle.io.specs.Counts.{IsPrefixLen};
 ghost use Rattle.patterns.specs.Patterns.{patterns_of};
 
+use blocks::{Conversion, Whole};
 use std::process::ExitCode;
 
 // Writes the pattern of each f64 in `bytes` into the first bytes of `output`, and answers how many bytes that is.
@@ -24,6 +25,15 @@ fn convert(bytes: &[u8], output: &mut [u8]) -> usize
     2 * reals.len()
 }
 
+// The conversion of f64s, whose patterns are fewer bytes than they.
+struct ToPatterns;
+
+impl Conversion<131072> for ToPatterns {
+    fn convert(&self, block: Whole, output: &mut [u8; 131072]) -> usize {
+        convert(block.bytes, output)
+    }
+}
+
 fn main(rt: HostRuntime) -> ExitCode {
-    blocks::convert_input(&rt, &mut blocks::input_block(), convert)
+    blocks::convert_input(&rt, &mut blocks::input_block(), &ToPatterns)
 }

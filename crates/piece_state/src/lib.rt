@@ -31,7 +31,9 @@ pub fn empty(refusal: Option<Refusal>) -> Pieces
     }
 }
 
-// The refusal that a state brings: State where no calls produce it, or the one that it keeps.
+// The refusal that a state brings: State where no calls produce it, or the one that it keeps. Compiled into its callers, it needs no
+// copy of the state on their stack.
+#[inline(always)]
 #[tactic(auto, unfolding(crate::specs::State::handed_in_of))]
 pub fn handed_in(state: Pieces) -> Option<Refusal>
     ensures { result ≡ handed_in_of state }

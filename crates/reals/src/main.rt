@@ -7,6 +7,7 @@ ghost use Rattle.std.specs.Prelude.{◌≡◌, ◌*◌, ◌≤◌, length, take}
 ghost use Rattle.io.specs.Counts.{IsPrefixLen};
 ghost use Rattle.reals.specs.Reals.{reals_of};
 
+use blocks::{Conversion, Whole};
 use real::RealAnswer;
 use std::process::ExitCode;
 
@@ -28,7 +29,15 @@ fn convert(bytes: &[u8], output: &mut [u8]) -> usize
     8 * patterns.len()
 }
 
-// A block of input is 131,072 bytes, and gives eight bytes for each two.
+// The conversion of patterns: eight bytes for each two of a block.
+struct ToReals;
+
+impl Conversion<524288> for ToReals {
+    fn convert(&self, block: Whole, output: &mut [u8; 524288]) -> usize {
+        convert(block.bytes, output)
+    }
+}
+
 fn main(rt: HostRuntime) -> ExitCode {
-    blocks::convert_input(&rt, &mut blocks::room::<524288>(), convert)
+    blocks::convert_input(&rt, &mut blocks::room(), &ToReals)
 }

@@ -1,12 +1,13 @@
 -- Bytes written one after the other: what two writes side by side leave, what is written beyond the end, and the bytes of one
 -- more number.
-use Prim.Native.Nat.{ℕ, zero, suc, ◌+◌, ◌*◌, ◌≤◌, min}
+use Prim.Native.Nat.{ℕ, zero, suc, ◌+◌, ◌*◌, ◌≤◌, ◌<◌, min}
 use mathlib.Core.Path.{◌≡◌, refl, sym, ap, ◌∙◌}
 use mathlib.Core.List.{List, [], ◌∷◌, ◌++◌}
 use native.Mathlib.Omega.{arith}
+use native.Mathlib.Numerals.{add-one}
 use native.Mathlib.Nat.{add-zero}
-use lib.ListN.{length, take, set, length-set}
-use lib.Seq.{set_out, sets, take-nil}
+use lib.ListN.{length, take, get_or, set, length-set}
+use lib.Seq.{set_out, sets, take-suc, take-nil, length-take-le}
 use Rattle.words.specs.Numbers.{bytes_of, bytes_of_all}
 
 pub sets_append : (l : List ℕ) (i : ℕ) (xs ys : List ℕ) → sets l i (xs ++ ys) ≡ sets (sets l i xs) (i + length xs) ys
@@ -14,6 +15,15 @@ sets_append l i [] ys = rw add-zero
 sets_append l i (x ∷ xs) ys =
     let e : suc i + length xs ≡ i + suc (length xs) = omega arith in
     sets_append (set l i x) (suc i) xs ys ∙ ap (λ (k : ℕ). sets (sets (set l i x) (suc i) xs) k ys) e
+
+sets_snoc : (l : List ℕ) (i : ℕ) (xs : List ℕ) (y : ℕ) → sets l i (xs ++ (y ∷ [])) ≡ set (sets l i xs) (i + length xs) y
+sets_snoc l i xs y = sets_append l i xs (y ∷ [])
+
+-- one byte more of a list that is written from its front
+pub sets_take : (l : List ℕ) (i : ℕ) (vs : List ℕ) (j : ℕ) → j < length vs → set (sets l i (take j vs)) (i + j) (get_or vs j 0) ≡ sets l i (take (j + 1) vs)
+sets_take l i vs j h =
+    let e : length (take j vs) ≡ j = length-take-le j vs (omega arith) in
+    rw (add-one, take-suc vs j 0 h, sets_snoc, e)
 
 -- beyond the end nothing is written
 pub sets_beyond : (l : List ℕ) (i : ℕ) (vs : List ℕ) → length l ≤ i → sets l i vs ≡ l

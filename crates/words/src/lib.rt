@@ -30,10 +30,13 @@ pub fn put_number(output: &mut [u8], at: usize, number: u16)
     output[at..at + 2].copy_from_slice(&bytes);
 }
 
-// Writes the bytes of `input` into the first places of `output`, as many as there are.
+// Writes the bytes of `input` into the first places of `output`, as many as there are. A loop, for the library's `copy_from_slice`
+// has the archive for C need `memmove` from outside.
 pub fn copy(input: &[u8], output: &mut [u8])
     ensures { output.new ≡ sets output.old 0 input.now }
 {
     let count = input.len().min(output.len());
-    output[..count].copy_from_slice(&input[..count]);
+    for i in 0..count {
+        output[i] = input[i];
+    }
 }

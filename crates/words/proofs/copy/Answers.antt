@@ -1,14 +1,10 @@
--- The bytes that fit are all that a write from the front leaves.
-use Rattle.std.proofs.Common.{◌≡◌, ℕ, min, List, ◌++◌, arith, take, length, drop, zero-add}
-use Rattle.std.proofs.lemmas.List.{length-take-le}
-use Rattle.std.proofs.lemmas.List.Edits.{sets, sets-eq}
-use Rattle.words.proofs.Writing.{sets_fitting}
+-- One byte more of the input is written after the first `i`, and those that fit are all that counts.
+use Rattle.std.proofs.Common.{arith, zero-add}
+use Rattle.words.proofs.Writing.{sets_take, sets_fitting}
 use Rattle.words.proofs.copy.Goals as goal
 
-written : (l vs : List ℕ) (n : ℕ) → n ≡ min (length vs) (length l) → take n vs ++ drop n l ≡ sets l 0 vs
-written l vs n e =
-    let fits : length (take n vs) ≡ n = length-take-le n vs (omega arith) in
-    rw (← sets_fitting l 0 vs n (omega arith), sets-eq (take n vs) l 0 (omega arith), fits, zero-add)
+pub loop-i-preserved : goal.loop-i-preserved
+loop-i-preserved c = cc (sets_take c.args.output.now 0 c.args.input.now c.loop-i.i (omega arith), zero-add c.loop-i.i)
 
 pub returns : goal.returns
-returns c = cc (written c.args.output.now c.args.input.now c.min-count.result (omega arith))
+returns c = cc (c.loop-i.invariant, sets_fitting c.args.output.now 0 c.args.input.now c.loop-i.i (omega arith))
