@@ -2,7 +2,7 @@
 // begins `failed: ` and ends with the system's words and its number for them.
 #![tactic(auto)]
 
-ghost use Rattle.std.specs.Prelude.{◌≡◌, ◌≤◌, length};
+ghost use Rattle.std.specs.Prelude.{ℕ, List, ◌≡◌, ◌≤◌, length, take};
 ghost use Rattle.std.specs.Io.KnownBytes.{Consumes, IsAtEnd};
 
 use std::env::{Env, FillError};
@@ -177,9 +177,24 @@ pub struct Whole<'a> {
 
 // What a block of input becomes, in room for `ROOM` bytes.
 pub trait Conversion<const ROOM: usize> {
+    ghost gives: { List ℕ → List ℕ };
+
     // Puts what the block becomes into the first bytes of `output`, and answers how many that is.
     fn convert(&self, block: Whole, output: &mut [u8; ROOM]) -> usize
-        ensures { result ≤ ROOM };
+        ensures within { result ≤ ROOM }
+        ensures output_after { take result output.new ≡ gives block.entry.bytes.now };
+}
+
+// What the block becomes.
+fn converted<'a, const ROOM: usize, C: Conversion<ROOM>>(
+    conversion: &C,
+    block: Whole,
+    output: &'a mut [u8; ROOM],
+) -> &'a [u8]
+    ensures { result.now ≡ C.gives block.entry.bytes.now }
+{
+    let written = conversion.convert(block, output);
+    &output[..written]
 }
 
 // Converts standard input: for each block, what `conversion` puts into the first bytes of `output` goes to standard output. It ends
@@ -197,8 +212,7 @@ pub fn convert_input<const ROOM: usize>(
     for _ in 0..u64::MAX {
         let block = read_block(rt, &mut input);
         let whole = Whole { bytes: block.bytes };
-        let written = conversion.convert(whole, output);
-        if !write_block(rt, &output[..written]) {
+        if !write_block(rt, converted(conversion, whole, output)) {
             return ExitCode::FAILURE;
         }
         match block.then {

@@ -29,6 +29,8 @@ fn convert(bytes: &[u8], output: &mut [u8]) -> usize
 struct ToPatterns;
 
 impl Conversion<131072> for ToPatterns {
+    ghost gives = { patterns_of };
+
     fn convert(&self, block: Whole, output: &mut [u8; 131072]) -> usize {
         convert(block.bytes, output)
     }

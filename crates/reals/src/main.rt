@@ -33,6 +33,8 @@ fn convert(bytes: &[u8], output: &mut [u8]) -> usize
 struct ToReals;
 
 impl Conversion<524288> for ToReals {
+    ghost gives = { reals_of };
+
     fn convert(&self, block: Whole, output: &mut [u8; 524288]) -> usize {
         convert(block.bytes, output)
     }
