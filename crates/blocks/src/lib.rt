@@ -4,6 +4,7 @@
 
 ghost use Rattle.std.specs.Prelude.{ℕ, List, ◌≡◌, ◌≤◌, length, take};
 ghost use Rattle.std.specs.Io.KnownBytes.{Consumes, IsAtEnd};
+ghost use Rattle.blocks.specs.Conversions.{TakesBlocks, CountsWithin, Gives};
 
 use std::env::{Env, FillError};
 use std::fs::Files;
@@ -213,6 +214,54 @@ pub fn convert_input<const ROOM: usize>(
         let block = read_block(rt, &mut input);
         let whole = Whole { bytes: block.bytes };
         if !write_block(rt, converted(conversion, whole, output)) {
+            return ExitCode::FAILURE;
+        }
+        match block.then {
+            Then::More => {}
+            Then::End => break,
+            Then::Failed => return ExitCode::FAILURE,
+        }
+    }
+    ExitCode::SUCCESS
+}
+
+// What converts blocks in room of its own, of any length.
+pub trait Converter {
+    // What the block becomes.
+    fn convert(&mut self, block: Whole) -> &[u8];
+}
+
+// A function that converts, and the room that it is lent at each block.
+#[derive(Drop)]
+pub struct ByFunction<'a> {
+    pub output: &'a mut [u8],
+    pub convert: fn(&[u8], &mut [u8]) -> usize,
+    ghost callable: { TakesBlocks (length output.now) (pre convert) },
+    ghost within: { CountsWithin (post convert) },
+}
+
+impl<'a> Converter for ByFunction<'a> {
+    fn convert(&mut self, block: Whole) -> &[u8]
+        ensures { Gives (post self.old.convert) block.entry.bytes self.old.output.now result.now }
+    {
+        let written = (self.convert)(block.bytes, self.output);
+        &self.output[..written]
+    }
+}
+
+// Converts standard input as `convert_input` does, where the conversion is a converter of any kind.
+pub fn convert_input_by(
+    rt: &(impl Env + Input + Print + Eprint),
+    converter: &mut impl Converter,
+) -> ExitCode {
+    if !without_words(rt) {
+        return ExitCode::FAILURE;
+    }
+    let mut input = input_block();
+    for _ in 0..u64::MAX {
+        let block = read_block(rt, &mut input);
+        let whole = Whole { bytes: block.bytes };
+        if !write_block(rt, converter.convert(whole)) {
             return ExitCode::FAILURE;
         }
         match block.then {
