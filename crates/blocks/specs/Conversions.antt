@@ -10,5 +10,5 @@ abbrev pub CountsWithin : (Bor (List ℕ) → MutBor (List ℕ) → ℕ → MutB
 CountsWithin post = (b : Bor (List ℕ)) (o : MutBor (List ℕ)) (n : ℕ) (o' : MutBor (List ℕ)) → post b o n o' → n ≤ length o'.now
 
 -- the bytes are the first of what a call on the block leaves in the room, as many as it answers
-abbrev pub Gives : (Bor (List ℕ) → MutBor (List ℕ) → ℕ → MutBor (List ℕ) → Type 0) → Bor (List ℕ) → List ℕ → List ℕ → Type 0
-Gives post b room bytes = (o : MutBor (List ℕ)) × (n : ℕ) × (o' : MutBor (List ℕ)) × (o.now ≡ room) × post b o n o' × (bytes ≡ take n o'.now)
+abbrev pub CallGives : (Bor (List ℕ) → MutBor (List ℕ) → ℕ → MutBor (List ℕ) → Type 0) → Bor (List ℕ) → List ℕ → List ℕ → Type 0
+CallGives post b room bytes = (o : MutBor (List ℕ)) × (n : ℕ) × (o' : MutBor (List ℕ)) × (o.now ≡ room) × post b o n o' × (bytes ≡ take n o'.now)

@@ -4,7 +4,7 @@
 
 ghost use Rattle.std.specs.Prelude.{ℕ, List, ◌≡◌, ◌≤◌, length, take};
 ghost use Rattle.std.specs.Io.KnownBytes.{Consumes, IsAtEnd};
-ghost use Rattle.blocks.specs.Conversions.{TakesBlocks, CountsWithin, Gives};
+ghost use Rattle.blocks.specs.Conversions.{TakesBlocks, CountsWithin, CallGives};
 
 use std::env::{Env, FillError};
 use std::fs::Files;
@@ -242,7 +242,7 @@ pub struct ByFunction<'a> {
 
 impl<'a> Converter for ByFunction<'a> {
     fn convert(&mut self, block: Whole) -> &[u8]
-        ensures { Gives (post self.old.convert) block.entry.bytes self.old.output.now result.now }
+        ensures { CallGives (post self.old.convert) block.entry.bytes self.old.output.now result.now }
     {
         let written = (self.convert)(block.bytes, self.output);
         &self.output[..written]

@@ -7,6 +7,7 @@ ghost use Rattle.io.specs.Counts.{IsPrefixLen};
 use blocks::ByFunction;
 use std::process::ExitCode;
 
+// Writes each byte of `bytes` twice into the first bytes of `output`, and answers how many bytes that is.
 fn twice(bytes: &[u8], output: &mut [u8]) -> usize
     requires { 2 * length bytes.now ≤ length output.old }
     ensures { IsPrefixLen result output.new }
